@@ -1,0 +1,3 @@
+// Constraint rows: their columns, the table of the sixteen kinds, the row check, and the numbers that every call hands back.
+
+pub mod refusal;
