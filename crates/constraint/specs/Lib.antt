@@ -1,1 +1,5 @@
+pub mod Check
+pub mod Kind
+pub mod Op
 pub mod Refusal
+pub mod Row

@@ -1,0 +1,96 @@
+-- The row check: what the table asks of a row, the ranges of the counts, and the answer of the call.
+use mathlib.Core.Bool.{Bool, true, false, _&&_, not, cond}
+use mathlib.Core.List.{List}
+use Prim.Native.Nat.{ℕ, _≤_}
+use lib.Dec.{eqb, ltb, leb}
+use lib.ListN.{length}
+use Rattle.lists.specs.First.{firstFailing}
+use Rattle.constraint.specs.Kind.{columnsOf}
+use Rattle.constraint.specs.Op.{isOp}
+use Rattle.constraint.specs.Row.{rowOf}
+use Rattle.constraint.specs.declared.kind.Part.{Part}
+use Rattle.constraint.specs.declared.kind.Part.the-variants as part
+use Rattle.constraint.specs.declared.kind.Name.{Name}
+use Rattle.constraint.specs.declared.kind.Name.the-variants as name
+use Rattle.constraint.specs.declared.row.Row.{Row}
+use Rattle.constraint.specs.declared.check.Counts.{Counts}
+use Rattle.constraint.specs.declared.check.Takes.{Takes}
+use Rattle.constraint.specs.declared.check.Takes.the-variants as takes
+use Rattle.constraint.specs.declared.check.Fault.{Fault}
+use Rattle.constraint.specs.declared.check.Fault.the-variants as fault
+use Rattle.constraint.specs.declared.check.Checked.{Checked}
+use Rattle.constraint.specs.declared.check.Checked.the-variants.{Good, Refused}
+use Rattle.constraint.specs.declared.refusal.Refusal.the-variants as refusal
+
+-- which parts of the table a call takes: 'Search and plan check take kinds 1 to 6 only, the roster's assignment list 10 to 13 only'
+abbrev pub takesPart : Takes → Part → Bool
+takesPart takes.All part.Refused = false
+takesPart takes.All part.Given = true
+takesPart takes.All part.Scheduling = true
+takesPart takes.All part.Assignment = true
+takesPart takes.Scheduling part.Refused = false
+takesPart takes.Scheduling part.Given = false
+takesPart takes.Scheduling part.Scheduling = true
+takesPart takes.Scheduling part.Assignment = false
+takesPart takes.Assignment part.Refused = false
+takesPart takes.Assignment part.Given = false
+takesPart takes.Assignment part.Scheduling = false
+takesPart takes.Assignment part.Assignment = true
+
+-- what a column of sixteen bits may hold: a number under its count, any limit 0..65,535, any offset but -32,768, an op; 'Extra is 0 elsewhere'
+abbrev pub columnHolds : Counts → Name → ℕ → Bool
+columnHolds counts name.None value = eqb value 32768
+columnHolds counts name.Choice value = ltb value (counts .choices)
+columnHolds counts name.Slot value = ltb value (counts .slots)
+columnHolds counts name.Chooser value = ltb value (counts .choosers)
+columnHolds counts name.Limit value = true
+columnHolds counts name.Offset value = ltb 0 value
+columnHolds counts name.Op value = isOp value
+
+-- the first bad column: kind, left, right, extra, in that order, and a bad kind hides the rest
+unfoldable pub faultOf : Counts → Takes → Row → Fault
+faultOf counts takes row =
+    let columns = columnsOf (row .kind) in
+    cond (takesPart takes (columns .0))
+    (cond (columnHolds counts (columns .1) (row .left))
+    (cond (columnHolds counts (columns .2) (row .right))
+    (cond (columnHolds counts (columns .3) (row .extra)) fault.None fault.Extra)
+    fault.Right)
+    fault.Left)
+    fault.Kind
+
+-- no column is bad
+abbrev pub faultless : Fault → Bool
+faultless fault.None = true
+faultless fault.Kind = false
+faultless fault.Left = false
+faultless fault.Right = false
+faultless fault.Extra = false
+
+-- a number of a pool stands for a row that keeps the table
+unfoldable pub rowKeeps : Counts → Takes → ℕ → Bool
+rowKeeps counts takes number = faultless (faultOf counts takes (rowOf number))
+
+-- good, or 5 with the first row that breaks the table
+unfoldable pub rowsOf : Counts → Takes → List ℕ → Checked
+rowsOf counts takes rows =
+    let first = firstFailing (rowKeeps counts takes) rows in
+    cond (ltb first (length rows)) (Refused (refusal.Row first)) Good
+
+-- 'given rows 0..128, reduced rows 0..1,024'
+abbrev pub mostRows : Takes → ℕ
+mostRows takes.All = 128
+mostRows takes.Scheduling = 1024
+mostRows takes.Assignment = 1024
+
+-- 'Choices C 0..64, slots S 0..24, choosers H 0..200'
+unfoldable pub countsInRange : Counts → Takes → Bool
+countsInRange counts takes =
+    leb (counts .choices) 64 && leb (counts .slots) 24 && leb (counts .choosers) 200 && leb (counts .rows) (mostRows takes)
+
+-- the call: 1 where a count is out of its range, 2 where the list isn't as long as its count, 5, or good
+unfoldable pub checkOf : Counts → Takes → List ℕ → Checked
+checkOf counts takes rows =
+    cond (countsInRange counts takes)
+    (cond (eqb (length rows) (counts .rows)) (rowsOf counts takes rows) (Refused refusal.Length))
+    (Refused refusal.Count)

@@ -1,0 +1,172 @@
+// The row check: the table of kinds held against each row of a list.
+use super::kind::Columns;
+use super::kind::Name;
+use super::kind::Part;
+use super::op::Op;
+use super::refusal::Refusal;
+use super::row::Row;
+ghost use mathlib.Core.Path.{_≡_};
+ghost use Rattle.constraint.specs.Check.{takesPart, columnHolds, faultOf, rowKeeps, mostRows, countsInRange, rowsOf, checkOf};
+
+// A day's counts as a call is given them: any numbers.
+pub struct Counts {
+    pub choices: usize,
+    pub slots: usize,
+    pub choosers: usize,
+    pub rows: usize,
+}
+
+// Which kinds a call takes: all that the table has (a day's given rows), 1 to 6, or 10 to 13.
+pub enum Takes {
+    All,
+    Scheduling,
+    Assignment,
+}
+
+// The first bad column of a row, a bad kind hiding the rest.
+pub enum Fault {
+    None,
+    Kind,
+    Left,
+    Right,
+    Extra,
+}
+
+// What the row check answers.
+pub enum Checked {
+    Good,
+    Refused(Refusal),
+}
+
+// Whether a call takes kinds of this part of the table.
+fn takes_part(takes: Takes, part: Part) -> bool
+    ensures { λ r. ⌜ r ≡ takesPart takes part ⌝ }
+{
+    match takes {
+        Takes::All => match part {
+            Part::Refused => false,
+            Part::Given => true,
+            Part::Scheduling => true,
+            Part::Assignment => true,
+        },
+        Takes::Scheduling => match part {
+            Part::Refused => false,
+            Part::Given => false,
+            Part::Scheduling => true,
+            Part::Assignment => false,
+        },
+        Takes::Assignment => match part {
+            Part::Refused => false,
+            Part::Given => false,
+            Part::Scheduling => false,
+            Part::Assignment => true,
+        },
+    }
+}
+
+// Whether a column may hold the value.
+fn column_holds(counts: Counts, names: Name, value: u16) -> bool
+    ensures { λ r. ⌜ r ≡ columnHolds counts names value ⌝ }
+{
+    match names {
+        Name::None => value == Row::NO_EXTRA,
+        Name::Choice => (value as usize) < counts.choices,
+        Name::Slot => (value as usize) < counts.slots,
+        Name::Chooser => (value as usize) < counts.choosers,
+        Name::Limit => true,
+        Name::Offset => 0 < value,
+        Name::Op => Op::is_op(value),
+    }
+}
+
+// The first bad column of a row.
+pub fn fault_of(counts: Counts, takes: Takes, row: Row) -> Fault
+    ensures { λ r. ⌜ r ≡ faultOf counts takes row ⌝ }
+{
+    let columns = Columns::of(row.kind);
+    let part = columns.0;
+    if !takes_part(takes, part) {
+        return Fault::Kind;
+    }
+    let left = columns.1;
+    if !column_holds(counts, left, row.left) {
+        return Fault::Left;
+    }
+    let right = columns.2;
+    if !column_holds(counts, right, row.right) {
+        return Fault::Right;
+    }
+    let extra = columns.3;
+    if !column_holds(counts, extra, row.extra) {
+        return Fault::Extra;
+    }
+    Fault::None
+}
+
+// Whether a number of a pool stands for a row that keeps the table.
+pub fn row_keeps(counts: Counts, takes: Takes, number: u64) -> bool
+    ensures { λ r. ⌜ r ≡ rowKeeps counts takes number ⌝ }
+{
+    let fault = fault_of(counts, takes, Row::of(number));
+    match fault {
+        Fault::None => true,
+        Fault::Kind => false,
+        Fault::Left => false,
+        Fault::Right => false,
+        Fault::Extra => false,
+    }
+}
+
+// The first row of a list that breaks the table, whatever the counts.
+pub fn check_each_row(counts: Counts, takes: Takes, rows: &[u64]) -> Checked
+    ensures { λ r. ⌜ r ≡ rowsOf counts takes (now (rows .entry)) ⌝ }
+{
+    let mut i = 0;
+    while i < rows.len() {
+        if !row_keeps(counts, takes, rows[i]) {
+            return Checked::Refused(Refusal::Row(i));
+        }
+        i += 1;
+    }
+    Checked::Good
+}
+
+// Whether each count is in its range: given rows are at most 128, reduced ones 1,024.
+pub fn counts_in_range(counts: Counts, takes: Takes) -> bool
+    ensures { λ r. ⌜ r ≡ countsInRange counts takes ⌝ }
+{
+    if 64 < counts.choices {
+        return false;
+    }
+    if 24 < counts.slots {
+        return false;
+    }
+    if 200 < counts.choosers {
+        return false;
+    }
+    counts.rows <= most_rows(takes)
+}
+
+// The most rows that a list may have.
+fn most_rows(takes: Takes) -> usize
+    ensures { λ r. ⌜ r ≡ mostRows takes ⌝ }
+{
+    match takes {
+        Takes::All => 128,
+        Takes::Scheduling => 1024,
+        Takes::Assignment => 1024,
+    }
+}
+
+// The row check of a call that takes nothing but rows: 1, then 2, then 5 with the first bad row.
+pub fn check_rows(counts: Counts, takes: Takes, rows: &[u64]) -> Checked
+    ensures { λ r. ⌜ r ≡ checkOf counts takes (now (rows .entry)) ⌝ }
+{
+    if !counts_in_range(counts, takes) {
+        return Checked::Refused(Refusal::Count);
+    }
+    if rows.len() != counts.rows {
+        return Checked::Refused(Refusal::Length);
+    }
+    check_each_row(counts, takes, rows)
+}
