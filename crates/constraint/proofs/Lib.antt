@@ -1,1 +1,5 @@
 pub mod CheckLaws
+pub mod KindLaws
+pub mod Outcomes
+pub mod RowLaws
+pub mod SignedLaws

@@ -3,10 +3,12 @@ use mathlib.Core.Bool.{Bool, true, false, _&&_, not, cond}
 use mathlib.Core.List.{List}
 use Prim.Native.Nat.{ℕ, _≤_}
 use lib.Dec.{eqb, ltb, leb}
+use lib.IntN.{pos, negℤ}
 use lib.ListN.{length}
+use lib.Signed.{leZ}
 use Rattle.lists.specs.First.{firstFailing}
 use Rattle.constraint.specs.Kind.{columnsOf}
-use Rattle.constraint.specs.Op.{isOp}
+use Rattle.constraint.specs.Op.{signedOf, extraOf, isOp}
 use Rattle.constraint.specs.Row.{rowOf}
 use Rattle.constraint.specs.declared.kind.Part.{Part}
 use Rattle.constraint.specs.declared.kind.Part.the-variants as part
@@ -37,14 +39,14 @@ takesPart takes.Assignment part.Given = false
 takesPart takes.Assignment part.Scheduling = false
 takesPart takes.Assignment part.Assignment = true
 
--- what a column of sixteen bits may hold: a number under its count, any limit 0..65,535, any offset but -32,768, an op; 'Extra is 0 elsewhere'
+-- what a column may hold: a number under its count, 'limit 0..65,535', 'offset -32,767..32,767', an op; 'Extra is 0 elsewhere'
 abbrev pub columnHolds : Counts → Name → ℕ → Bool
-columnHolds counts name.None value = eqb value 32768
+columnHolds counts name.None value = eqb value (extraOf (pos 0))
 columnHolds counts name.Choice value = ltb value (counts .choices)
 columnHolds counts name.Slot value = ltb value (counts .slots)
 columnHolds counts name.Chooser value = ltb value (counts .choosers)
-columnHolds counts name.Limit value = true
-columnHolds counts name.Offset value = ltb 0 value
+columnHolds counts name.Limit value = leb value 65535
+columnHolds counts name.Offset value = leZ (negℤ (pos 32767)) (signedOf value) && leZ (signedOf value) (pos 32767)
 columnHolds counts name.Op value = isOp value
 
 -- the first bad column: kind, left, right, extra, in that order, and a bad kind hides the rest

@@ -1,31 +1,36 @@
--- The ops of kind 6 as a row's extra column holds them, and the signed number that each stands for.
+-- The extra column: it is kept 32,768 higher than the signed number that it stands for. The six ops of kind 6.
 use mathlib.Core.Bool.{Bool, _||_}
-use Prim.Native.Nat.{ℕ, _+_, _-_}
+use Prim.Native.Nat.{ℕ, suc, _+_, _-_}
 use lib.Dec.{eqb}
-use lib.IntN.{ℤ, subℕ}
+use lib.IntN.{ℤ, pos, negsuc, negℤ, subℕ}
 
--- the signed number that an extra column stands for: it is kept 32,768 higher
+-- the signed number that an extra column stands for
 unfoldable pub signedOf : ℕ → ℤ
 signedOf extra = subℕ extra 32768
 
--- 'Ops: Eq 1, Gt 2, Geq 3, Neq -1, Leq -2, Lt -3', each 32,768 higher
+-- the extra column that stands for a signed number
+abbrev pub extraOf : ℤ → ℕ
+extraOf (pos n) = 32768 + n
+extraOf (negsuc n) = 32768 - suc n
+
+-- 'Ops: Eq 1, Gt 2, Geq 3, Neq -1, Leq -2, Lt -3'
 abbrev pub eqOp : ℕ
-eqOp = 32768 + 1
+eqOp = extraOf (pos 1)
 
 abbrev pub gtOp : ℕ
-gtOp = 32768 + 2
+gtOp = extraOf (pos 2)
 
 abbrev pub geqOp : ℕ
-geqOp = 32768 + 3
+geqOp = extraOf (pos 3)
 
 abbrev pub neqOp : ℕ
-neqOp = 32768 - 1
+neqOp = extraOf (negℤ (pos 1))
 
 abbrev pub leqOp : ℕ
-leqOp = 32768 - 2
+leqOp = extraOf (negℤ (pos 2))
 
 abbrev pub ltOp : ℕ
-ltOp = 32768 - 3
+ltOp = extraOf (negℤ (pos 3))
 
 -- the extra column names one of the six
 unfoldable pub isOp : ℕ → Bool

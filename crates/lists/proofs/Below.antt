@@ -6,6 +6,8 @@ use native.Mathlib.Decide.{ℕ-discrete}
 use native.Mathlib.Numerals.{add-one}
 use native.Mathlib.Nat.{not-suc-le-zero}
 use native.Mathlib.Omega.{arith}
+use borrow.Author.Tests.{lt-ltb, le-ltb, ltb-true, ltb-false}
+use lib.Dec.{ltb}
 use Rattle.lists.specs.Below.{one, allBelow, anyBelow, countBelow, sumBelow}
 
 -- two tests that hold
@@ -19,6 +21,14 @@ and-left false b h = h
 pub and-right : (a b : Bool) → (a && b) ≡ true → b ≡ true
 and-right true b h = h
 and-right false b h = absurd (false≢true h)
+
+-- two tests of order are one where each order follows from the other
+pub same-test : (c d p q : ℕ) → (c < d → p < q) → (d ≤ c → q ≤ p) → ltb c d ≡ ltb p q
+same-test c d p q up down = by (ltb c d) refl
+  where
+    by : (t : Bool) → ltb c d ≡ t → t ≡ ltb p q
+    by true t = sym (lt-ltb p q (up (ltb-true c d t)))
+    by false t = sym (le-ltb p q (down (ltb-false c d t)))
 
 -- the code's i + 1
 pub all-more : (p : ℕ → Bool) (i : ℕ) → allBelow i p ≡ true → p i ≡ true → allBelow (i + 1) p ≡ true

@@ -1,4 +1,5 @@
 pub mod Lists
 pub mod Below
 pub mod First
+pub mod Outcome
 pub mod Pool

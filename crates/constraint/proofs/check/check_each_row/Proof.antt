@@ -1,5 +1,5 @@
 -- The loop's invariant: the first bad row of the list is i places before the first bad one of what is left.
-use mathlib.Core.Path.{_≡_, sym, _∙_}
+use mathlib.Core.Path.{sym, _∙_}
 use Prim.Native.Nat.{_≤_, _-_}
 use lib.ListN.{length}
 use borrow.Author.Needs.{needs}
@@ -7,9 +7,6 @@ use borrow.Author.Tests.{not-true, not-false}
 use Rattle.constraint.proofs.CheckLaws.{RowsFrom, from-start, from-next, stops-at, none-bad}
 use Rattle.constraint.proofs.check.check_each_row.Statement.{statement}
 use Rattle.constraint.proofs.check.check_each_row.Tie as tie
-use Rattle.constraint.proofs.check.check_each_row.Reads as reads
-use Rattle.constraint.proofs.check.check_each_row.Lts as lts
-use Rattle.constraint.proofs.check.row_keeps.Reads as row-keeps-reads
 
 abbrev Inv-loop : tie.InvT-loop
 Inv-loop counts takes rows i₀ i = (i ≤ length rows) × RowsFrom counts takes rows i
@@ -17,47 +14,38 @@ Inv-loop counts takes rows i₀ i = (i ≤ length rows) × RowsFrom counts takes
 abbrev μ-loop : tie.MeasureT-loop
 μ-loop counts takes rows i₀ i = length rows - i
 
--- src/check.rt:123:5
 loop-holds : tie.Need-loop-holds Inv-loop μ-loop
 loop-holds c =
     (search needs, from-start _ _ _)
 
--- src/check.rt:124:38
 mul-row-keeps : tie.Need-mul-row-keeps Inv-loop μ-loop
 mul-row-keeps c =
     search needs
 
--- src/check.rt:124:38
 shared-slice-read-row-keeps : tie.Need-shared-slice-read-row-keeps Inv-loop μ-loop
 shared-slice-read-row-keeps c =
     search needs
 
--- src/check.rt:124:13
 row-keeps-requires : tie.Need-row-keeps-requires Inv-loop μ-loop
 row-keeps-requires c κs =
     search needs
 
--- src/check.rt:125:13
 returns : tie.Need-returns Inv-loop μ-loop
 returns c =
     stops-at _ _ _ _ (c .before .before .before .loop-test .taken) (c .before .before .before .before .loop .inv .1) (sym (c .before .row-keeps .ensures) ∙ not-true _ (c .if1 .taken))
 
--- src/check.rt:127:9
 add-i : tie.Need-add-i Inv-loop μ-loop
 add-i c =
     search needs
 
--- src/check.rt:123:5
 loop-less : tie.Need-loop-less Inv-loop μ-loop
 loop-less c =
     search needs
 
--- src/check.rt:123:5
 loop-again : tie.Need-loop-again Inv-loop μ-loop
 loop-again c =
     (search needs, from-next _ _ _ _ (c .before .before .before .loop-test .taken) (c .before .before .before .before .loop .inv .1) (sym (c .before .row-keeps .ensures) ∙ not-false _ (c .if1 .left)))
 
--- src/check.rt:119:1
 returns-2 : tie.Need-returns-2 Inv-loop μ-loop
 returns-2 c =
     none-bad _ _ _ _ (c .loop-test .left) (c .before .loop .inv .1)

@@ -1,34 +1,25 @@
 -- The call is its three tests in the definition's order.
-use mathlib.Core.Path.{_≡_, sym, _∙_}
+use mathlib.Core.Path.{sym, _∙_}
 use borrow.Author.Tests.{not-true, not-false}
 use Rattle.constraint.proofs.CheckLaws.{call-count, call-length, call-rows}
 use borrow.Author.Needs.{needs}
 use Rattle.constraint.proofs.check.check_rows.Statement.{statement}
 use Rattle.constraint.proofs.check.check_rows.Tie as tie
-use Rattle.constraint.proofs.check.check_rows.Reads as reads
-use Rattle.constraint.proofs.check.check_rows.Lts as lts
-use Rattle.constraint.proofs.check.check_each_row.Reads as check-each-row-reads
-use Rattle.constraint.proofs.check.counts_in_range.Reads as counts-in-range-reads
 
--- src/check.rt:163:9
 counts-in-range-requires : tie.Need-counts-in-range-requires
 counts-in-range-requires c κs = search needs
 
--- src/check.rt:164:9
 returns : tie.Need-returns
 returns c =
     call-count _ _ _ (sym (c .before .counts-in-range .ensures) ∙ not-true _ (c .if1 .taken))
 
--- src/check.rt:167:9
 returns-2 : tie.Need-returns-2
 returns-2 c =
     call-length _ _ _ (sym (c .before .before .before .counts-in-range .ensures) ∙ not-false _ (c .before .before .if1 .left)) (c .if2 .taken)
 
--- src/check.rt:169:5
 check-each-row-requires : tie.Need-check-each-row-requires
 check-each-row-requires c κs = search needs
 
--- src/check.rt:160:1
 returns-3 : tie.Need-returns-3
 returns-3 c =
     c .check-each-row .ensures ∙ call-rows _ _ _ (sym (c .before .before .before .before .counts-in-range .ensures) ∙ not-false _ (c .before .before .before .if1 .left)) (c .before .if2 .left)

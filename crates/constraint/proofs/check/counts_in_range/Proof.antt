@@ -1,35 +1,27 @@
 -- Each early return has one count over its limit and those before it within theirs.
-use mathlib.Core.Path.{_≡_, sym, _∙_, ap}
+use mathlib.Core.Path.{_∙_, ap}
 use Prim.Native.Nat.{ℕ}
 use lib.Dec.{leb}
 use Rattle.constraint.proofs.CheckLaws.{many-choices, many-slots, many-choosers, rows-decide}
 use borrow.Author.Needs.{needs}
 use Rattle.constraint.proofs.check.counts_in_range.Statement.{statement}
 use Rattle.constraint.proofs.check.counts_in_range.Tie as tie
-use Rattle.constraint.proofs.check.counts_in_range.Reads as reads
-use Rattle.constraint.proofs.check.counts_in_range.Lts as lts
-use Rattle.constraint.proofs.check.most_rows.Reads as most-rows-reads
 
--- src/check.rt:125:9
 returns : tie.Need-returns
 returns c =
     many-choices _ _ (c .if1 .taken)
 
--- src/check.rt:128:9
 returns-2 : tie.Need-returns-2
 returns-2 c =
     many-slots _ _ (c .before .before .if1 .left) (c .if2 .taken)
 
--- src/check.rt:131:9
 returns-3 : tie.Need-returns-3
 returns-3 c =
     many-choosers _ _ (c .before .before .before .before .if1 .left) (c .before .before .if2 .left) (c .if3 .taken)
 
--- src/check.rt:133:20
 most-rows-requires : tie.Need-most-rows-requires
 most-rows-requires c κs = search needs
 
--- src/check.rt:121:1
 returns-4 : tie.Need-returns-4
 returns-4 c =
     ap (λ (n : ℕ). leb (c .before .before .before .before .before .before .before .before .args .counts .rows) n) (c .before .most-rows .ensures) ∙ rows-decide _ _ (c .before .before .before .before .before .before .if1 .left) (c .before .before .before .before .if2 .left) (c .before .before .if3 .left)

@@ -1,66 +1,47 @@
 -- The row is the number's, and its fault is the arm's.
-use mathlib.Core.Path.{_≡_, sym, _∙_, ap}
-use mathlib.Core.Bool.{Bool}
-use Rattle.constraint.specs.Check.{faultless, faultOf, rowKeeps}
-use Rattle.constraint.specs.declared.row.Row.{Row}
+use mathlib.Core.Path.{sym, _∙_}
 use Rattle.constraint.proofs.CheckLaws.{keeps-by}
 use borrow.Author.Needs.{needs}
 use Rattle.constraint.proofs.check.row_keeps.Statement.{statement}
 use Rattle.constraint.proofs.check.row_keeps.Tie as tie
-use Rattle.constraint.proofs.check.row_keeps.Reads as reads
-use Rattle.constraint.proofs.check.row_keeps.Lts as lts
-use Rattle.constraint.proofs.check.fault_of.Reads as fault-of-reads
-use Rattle.constraint.proofs.row.Row.of.Reads as of-reads
 
--- src/check.rt:108:41
 of-requires : tie.Need-of-requires
 of-requires c κs = search needs
 
--- src/check.rt:108:9
 fault-of-requires : tie.Need-fault-of-requires
 fault-of-requires c κs = search needs
 
--- src/check.rt:110:24
 enum-told : tie.Need-enum-told
 enum-told c = search needs
 
--- src/check.rt:111:24
 enum-told-2 : tie.Need-enum-told-2
 enum-told-2 c = search needs
 
--- src/check.rt:112:24
 enum-told-3 : tie.Need-enum-told-3
 enum-told-3 c = search needs
 
--- src/check.rt:113:25
 enum-told-4 : tie.Need-enum-told-4
 enum-told-4 c = search needs
 
--- src/check.rt:114:25
 enum-told-5 : tie.Need-enum-told-5
 enum-told-5 c = search needs
 
--- src/check.rt:105:1
 returns : tie.Need-returns
 returns c =
     keeps-by _ _ _ (c .before .before .before .of .ensures) (sym (c .enum-told .given .1) ∙ c .before .before .fault-of .ensures)
 
--- src/check.rt:105:1
 returns-2 : tie.Need-returns-2
 returns-2 c =
     keeps-by _ _ _ (c .before .before .before .of .ensures) (sym (c .enum-told2 .given .1) ∙ c .before .before .fault-of .ensures)
 
--- src/check.rt:105:1
 returns-3 : tie.Need-returns-3
 returns-3 c =
     keeps-by _ _ _ (c .before .before .before .of .ensures) (sym (c .enum-told3 .given .1) ∙ c .before .before .fault-of .ensures)
 
--- src/check.rt:105:1
 returns-4 : tie.Need-returns-4
 returns-4 c =
     keeps-by _ _ _ (c .before .before .before .of .ensures) (sym (c .enum-told4 .given .1) ∙ c .before .before .fault-of .ensures)
 
--- src/check.rt:105:1
 returns-5 : tie.Need-returns-5
 returns-5 c =
     keeps-by _ _ _ (c .before .before .before .of .ensures) (sym (c .enum-told5 .given .1) ∙ c .before .before .fault-of .ensures)

@@ -1,8 +1,7 @@
 -- Below the table's length the entry is the definition's; past it both are refused.
-use mathlib.Core.Path.{_≡_, sym}
-use Prim.Native.Nat.{ℕ, _<_}
+use mathlib.Core.Path.{sym}
 use borrow.Author.Needs.{needs}
-use lib.ListN.{length, getD, List·getD-eq-default}
+use lib.ListN.{length, List·getD-eq-default}
 use Rattle.constraint.specs.Kind.{kinds, columnsOf, line}
 use Rattle.constraint.specs.declared.kind.Part.the-variants.{Refused}
 use Rattle.constraint.specs.declared.kind.Name.the-variants.{None}

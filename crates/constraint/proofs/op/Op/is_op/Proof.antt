@@ -1,5 +1,4 @@
 -- Each op's arm has the key that it matched; past them all, none of the six.
-use mathlib.Core.Path.{_≡_}
 use borrow.Author.Tests.{ne-eqb}
 use Rattle.constraint.specs.Op.{isOp}
 use Rattle.constraint.proofs.op.Op.is_op.Statement.{statement}

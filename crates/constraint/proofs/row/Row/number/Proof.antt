@@ -1,53 +1,40 @@
 -- Four columns of sixteen bits fit a number of 64.
-use mathlib.Core.Path.{_≡_, refl}
+use mathlib.Core.Path.{refl}
 use Rattle.constraint.specs.Row.{rowNumber}
 use borrow.Author.Needs.{needs}
 use Rattle.constraint.proofs.row.Row.number.Statement.{statement}
 use Rattle.constraint.proofs.row.Row.number.Tie as tie
-use Rattle.constraint.proofs.row.Row.number.Reads as reads
-use Rattle.constraint.proofs.row.Row.number.Lts as lts
 
--- src/row.rt:34:10
 cast-result : tie.Need-cast-result
 cast-result c = search needs
 
--- src/row.rt:34:9
 mul-result : tie.Need-mul-result
 mul-result c = search needs
 
--- src/row.rt:35:16
 cast-result-2 : tie.Need-cast-result-2
 cast-result-2 c = search needs
 
--- src/row.rt:35:15
 mul-result-2 : tie.Need-mul-result-2
 mul-result-2 c = search needs
 
--- src/row.rt:34:9
 add-result : tie.Need-add-result
 add-result c = search needs
 
--- src/row.rt:36:16
 cast-result-3 : tie.Need-cast-result-3
 cast-result-3 c = search needs
 
--- src/row.rt:36:15
 mul-result-3 : tie.Need-mul-result-3
 mul-result-3 c = search needs
 
--- src/row.rt:34:9
 add-result-2 : tie.Need-add-result-2
 add-result-2 c = search needs
 
--- src/row.rt:37:16
 cast-result-4 : tie.Need-cast-result-4
 cast-result-4 c = search needs
 
--- src/row.rt:34:9
 add-result-3 : tie.Need-add-result-3
 add-result-3 c = search needs
 
--- src/row.rt:31:5
 returns : tie.Need-returns
 unfolding rowNumber
 returns c =

@@ -1,0 +1,52 @@
+-- No two outcomes fit: each public promise of this crate settles the answer for every input.
+use mathlib.Core.Path.{_≡_}
+use mathlib.Core.Bool.{Bool}
+use mathlib.Core.List.{List}
+use Prim.Native.Nat.{ℕ}
+use Rattle.lists.proofs.Outcome.{no-two}
+use Rattle.constraint.specs.Kind.{columnsOf}
+use Rattle.constraint.specs.Op.{isOp}
+use Rattle.constraint.specs.Refusal.{numberOf}
+use Rattle.constraint.specs.Row.{rowOf, rowNumber, plainRow}
+use Rattle.constraint.specs.Check.{faultOf, rowKeeps, rowsOf, countsInRange, checkOf}
+use Rattle.constraint.specs.declared.kind.Columns.{Columns}
+use Rattle.constraint.specs.declared.refusal.Refusal.{Refusal}
+use Rattle.constraint.specs.declared.row.Row.{Row}
+use Rattle.constraint.specs.declared.check.Counts.{Counts}
+use Rattle.constraint.specs.declared.check.Takes.{Takes}
+use Rattle.constraint.specs.declared.check.Fault.{Fault}
+use Rattle.constraint.specs.declared.check.Checked.{Checked}
+
+pub one-refusal-number : (refusal : Refusal) {a b : ℕ} → a ≡ numberOf refusal → b ≡ numberOf refusal → a ≡ b
+one-refusal-number refusal = no-two
+
+pub one-columns : (kind : ℕ) {a b : Columns} → a ≡ columnsOf kind → b ≡ columnsOf kind → a ≡ b
+one-columns kind = no-two
+
+pub one-is-op : (extra : ℕ) {a b : Bool} → a ≡ isOp extra → b ≡ isOp extra → a ≡ b
+one-is-op extra = no-two
+
+pub one-row : (number : ℕ) {a b : Row} → a ≡ rowOf number → b ≡ rowOf number → a ≡ b
+one-row number = no-two
+
+pub one-row-number : (row : Row) {a b : ℕ} → a ≡ rowNumber row → b ≡ rowNumber row → a ≡ b
+one-row-number row = no-two
+
+-- the three constructors of a row share one promise
+pub one-plain-row : (kind left right : ℕ) {a b : Row} → a ≡ plainRow kind left right → b ≡ plainRow kind left right → a ≡ b
+one-plain-row kind left right = no-two
+
+pub one-fault : (counts : Counts) (takes : Takes) (row : Row) {a b : Fault} → a ≡ faultOf counts takes row → b ≡ faultOf counts takes row → a ≡ b
+one-fault counts takes row = no-two
+
+pub one-row-keeps : (counts : Counts) (takes : Takes) (number : ℕ) {a b : Bool} → a ≡ rowKeeps counts takes number → b ≡ rowKeeps counts takes number → a ≡ b
+one-row-keeps counts takes number = no-two
+
+pub one-counts-in-range : (counts : Counts) (takes : Takes) {a b : Bool} → a ≡ countsInRange counts takes → b ≡ countsInRange counts takes → a ≡ b
+one-counts-in-range counts takes = no-two
+
+pub one-check-of-each-row : (counts : Counts) (takes : Takes) (rows : List ℕ) {a b : Checked} → a ≡ rowsOf counts takes rows → b ≡ rowsOf counts takes rows → a ≡ b
+one-check-of-each-row counts takes rows = no-two
+
+pub one-check : (counts : Counts) (takes : Takes) (rows : List ℕ) {a b : Checked} → a ≡ checkOf counts takes rows → b ≡ checkOf counts takes rows → a ≡ b
+one-check counts takes rows = no-two

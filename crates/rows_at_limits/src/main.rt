@@ -1,0 +1,365 @@
+// Prints the row check's answer for every kind 0 to 17 with each column at its limits, and for the counts and the length at theirs.
+// The file stdout beside src/ was written by expected.py, which knows nothing of this code.
+use constraint::check::Checked;
+use constraint::check::Counts;
+use constraint::check::Takes;
+use constraint::check::check_rows;
+use constraint::kind::Kind;
+use constraint::op::Op;
+use constraint::refusal::Refusal;
+use constraint::row::Row;
+use libc::STDOUT_FILENO;
+
+// Around each count's limit, and the ends of sixteen bits.
+const NUMBERS: [u16; 13] = [0, 1, 23, 24, 25, 63, 64, 65, 199, 200, 201, 65534, 65535];
+
+// Around 0, the ops and the offsets, kept 32,768 higher.
+const EXTRAS: [u16; 13] = [
+    0,
+    1,
+    32764,
+    32765,
+    32766,
+    32767,
+    32768,
+    32769,
+    32770,
+    32771,
+    32772,
+    65534,
+    65535,
+];
+
+fn text(bytes: &[u8]) {
+    io::write_all(STDOUT_FILENO, bytes);
+}
+
+fn new_line() {
+    text(b"\n");
+}
+
+fn number(n: u64) {
+    io::print_decimal(STDOUT_FILENO, n);
+}
+
+// An extra column as the signed number that it stands for.
+fn signed(extra: u16) {
+    if extra < Row::NO_EXTRA {
+        text(b"-");
+        number((Row::NO_EXTRA - extra) as u64);
+    } else {
+        number((extra - Row::NO_EXTRA) as u64);
+    }
+}
+
+fn takes_of(i: usize) -> Takes {
+    match i {
+        0 => Takes::All,
+        1 => Takes::Scheduling,
+        _ => Takes::Assignment,
+    }
+}
+
+fn takes_text(i: usize) {
+    match i {
+        0 => text(b"all"),
+        1 => text(b"scheduling"),
+        _ => text(b"assignment"),
+    }
+}
+
+// '=good', or '=' with the number and, for 5, the row.
+fn answer_text(answer: Checked) {
+    match answer {
+        Checked::Good => text(b"=good"),
+        Checked::Refused(refusal) => {
+            text(b"=");
+            number(refusal.number() as u64);
+            row_text(refusal);
+        }
+    }
+}
+
+fn row_text(refusal: Refusal) {
+    if let Refusal::Row(row) = refusal {
+        text(b" row ");
+        number(row as u64);
+    }
+}
+
+// A row that each call takes.
+fn good_row(takes: usize) -> u64 {
+    let kind = if takes == 2 {
+        Kind::CHOICES_HAVE_SAME_CHOOSERS
+    } else {
+        Kind::CHOICE_IS_IN_SLOT
+    };
+    let row = Row {
+        kind,
+        left: 0,
+        right: 0,
+        extra: Row::NO_EXTRA,
+    };
+    row.number()
+}
+
+// The row of a kind with one column set and the others as the kind allows.
+fn probe(kind: u16, column: usize, value: u16) -> u64 {
+    let extra = if kind == Kind::SLOT_HAS_LIMITED_SIZE {
+        Op::EQ
+    } else {
+        Row::NO_EXTRA
+    };
+    let row = match column {
+        0 => Row {
+            kind,
+            left: value,
+            right: 0,
+            extra,
+        },
+        1 => Row {
+            kind,
+            left: 0,
+            right: value,
+            extra,
+        },
+        _ => Row {
+            kind,
+            left: 0,
+            right: 0,
+            extra: value,
+        },
+    };
+    row.number()
+}
+
+fn column_text(column: usize) {
+    match column {
+        0 => text(b" left"),
+        1 => text(b" right"),
+        _ => text(b" extra"),
+    }
+}
+
+// The i-th value that a column is set to.
+fn value_of(column: usize, i: usize) -> u16 {
+    if 13 <= i {
+        return 0;
+    }
+    if column == 2 {
+        return EXTRAS[i];
+    }
+    NUMBERS[i]
+}
+
+fn value_text(column: usize, value: u16) {
+    text(b" ");
+    if column == 2 {
+        signed(value);
+    } else {
+        number(value as u64);
+    }
+}
+
+// One value of one column, as the second row of two.
+fn answer_at(takes: usize, kind: u16, column: usize, value: u16) {
+    let rows = [good_row(takes), probe(kind, column, value)];
+    let counts = Counts {
+        choices: 64,
+        slots: 24,
+        choosers: 200,
+        rows: 2,
+    };
+    answer_text(check_rows(counts, takes_of(takes), &rows));
+}
+
+// A line: one column of one kind at all its values.
+fn line(takes: usize, kind: u16, column: usize) {
+    takes_text(takes);
+    text(b" kind ");
+    number(kind as u64);
+    column_text(column);
+    for i in 0..13usize {
+        let value = value_of(column, i);
+        value_text(column, value);
+        answer_at(takes, kind, column, value);
+    }
+    new_line();
+}
+
+// The counts and the length: how many of the good rows are lent is a number of its own.
+fn counted(takes: usize, counts: Counts, lent: usize, rows: &[u64]) {
+    if rows.len() < lent {
+        return;
+    }
+    let part = &rows[..lent];
+    counts_text(takes, counts);
+    number(lent as u64);
+    text(b" ");
+    answer_text(check_rows(counts, takes_of(takes), part));
+    new_line();
+}
+
+fn counts_text(takes: usize, counts: Counts) {
+    takes_text(takes);
+    text(b" choices ");
+    number(counts.choices as u64);
+    text(b" slots ");
+    number(counts.slots as u64);
+    text(b" choosers ");
+    number(counts.choosers as u64);
+    text(b" rows ");
+    number(counts.rows as u64);
+    text(b" lent ");
+}
+
+fn limits(takes: usize, most: usize) {
+    let rows = [good_row(takes); 1025];
+    counted(
+        takes,
+        Counts {
+            choices: 64,
+            slots: 24,
+            choosers: 200,
+            rows: 2,
+        },
+        2,
+        &rows,
+    );
+    counted(
+        takes,
+        Counts {
+            choices: 65,
+            slots: 24,
+            choosers: 200,
+            rows: 2,
+        },
+        2,
+        &rows,
+    );
+    counted(
+        takes,
+        Counts {
+            choices: 64,
+            slots: 25,
+            choosers: 200,
+            rows: 2,
+        },
+        2,
+        &rows,
+    );
+    counted(
+        takes,
+        Counts {
+            choices: 64,
+            slots: 24,
+            choosers: 201,
+            rows: 2,
+        },
+        2,
+        &rows,
+    );
+    counted(
+        takes,
+        Counts {
+            choices: 64,
+            slots: 24,
+            choosers: 200,
+            rows: most,
+        },
+        most,
+        &rows,
+    );
+    if most < 1025 {
+        counted(
+            takes,
+            Counts {
+                choices: 64,
+                slots: 24,
+                choosers: 200,
+                rows: most + 1,
+            },
+            most + 1,
+            &rows,
+        );
+    }
+    counted(
+        takes,
+        Counts {
+            choices: 64,
+            slots: 24,
+            choosers: 200,
+            rows: 2,
+        },
+        1,
+        &rows,
+    );
+    counted(
+        takes,
+        Counts {
+            choices: 64,
+            slots: 24,
+            choosers: 200,
+            rows: 2,
+        },
+        3,
+        &rows,
+    );
+    counted(
+        takes,
+        Counts {
+            choices: 65,
+            slots: 24,
+            choosers: 200,
+            rows: 2,
+        },
+        3,
+        &rows,
+    );
+    counted(
+        takes,
+        Counts {
+            choices: 0,
+            slots: 0,
+            choosers: 0,
+            rows: 2,
+        },
+        3,
+        &rows,
+    );
+    counted(
+        takes,
+        Counts {
+            choices: 0,
+            slots: 0,
+            choosers: 0,
+            rows: 2,
+        },
+        2,
+        &rows,
+    );
+    counted(
+        takes,
+        Counts {
+            choices: 0,
+            slots: 0,
+            choosers: 0,
+            rows: 0,
+        },
+        0,
+        &rows,
+    );
+}
+
+fn main() {
+    for takes in 0..3usize {
+        for kind in 0..18u16 {
+            line(takes, kind, 0);
+            line(takes, kind, 1);
+            line(takes, kind, 2);
+        }
+    }
+    limits(0, 128);
+    limits(1, 1024);
+    limits(2, 1024);
+}
