@@ -3,7 +3,7 @@
 use std::collections::BTreeMap;
 
 use crate::wire::Input;
-use crate::{ChoiceData, ChooserData, Constraint, InputData, Scheduling, SlotData};
+use crate::{ChoiceData, ChooserData, InputData, Scheduling, SlotData};
 
 const OMITTED: u8 = 255;
 
@@ -30,6 +30,16 @@ fn chooser(preferences: Vec<u32>) -> ChooserData {
     }
 }
 
+fn choice(min: u32, max: u32, is_optional: bool) -> ChoiceData {
+    ChoiceData {
+        name: String::new(),
+        min,
+        max,
+        continuation: None,
+        is_optional,
+    }
+}
+
 fn numbers16(case: &mut Input, count: usize) -> Vec<u32> {
     (0..count).map(|_| u32::from(case.u16())).collect()
 }
@@ -38,21 +48,43 @@ fn numbers16(case: &mut Input, count: usize) -> Vec<u32> {
 pub(crate) fn read_choices(case: &mut Input, count: usize) -> Vec<ChoiceData> {
     let mins = numbers16(case, count);
     let maxs = numbers16(case, count);
-    let flags = (0..count).map(|_| case.u8()).collect::<Vec<_>>();
     (0..count)
-        .map(|choice| ChoiceData {
-            name: String::new(),
-            min: mins[choice],
-            max: maxs[choice],
-            continuation: None,
-            is_optional: flag(flags[choice]),
-        })
+        .map(|index| choice(mins[index], maxs[index], read_flag(case)))
         .collect()
 }
 
-fn flag(byte: u8) -> bool {
+/// Columns of the choices without flags: mins and maxs.
+pub(crate) fn read_min_max(case: &mut Input, count: usize) -> Vec<ChoiceData> {
+    let mins = numbers16(case, count);
+    let maxs = numbers16(case, count);
+    (0..count)
+        .map(|index| choice(mins[index], maxs[index], false))
+        .collect()
+}
+
+/// The mins alone, for the critical sets.
+pub(crate) fn read_mins(case: &mut Input, count: usize) -> Vec<ChoiceData> {
+    let mins = numbers16(case, count);
+    mins.into_iter().map(|min| choice(min, 0, false)).collect()
+}
+
+pub(crate) fn read_flag(case: &mut Input) -> bool {
+    let byte = case.u8();
     assert!(byte < 2, "a flag is 0 or 1");
     byte == 1
+}
+
+/// Levels, then preferences chooser by chooser. The choices must already be there.
+pub(crate) fn read_preferences(case: &mut Input, input_data: &mut InputData, levels: usize) {
+    input_data.preference_levels = numbers16(case, levels);
+    input_data.max_preference = *input_data
+        .preference_levels
+        .last()
+        .expect("a day has at least one level");
+    let choices = input_data.choices.len();
+    for chooser in &mut input_data.choosers {
+        chooser.preferences = numbers16(case, choices);
+    }
 }
 
 /// A plan: one byte a choice, 255 for omitted.

@@ -6,7 +6,7 @@
 //! the ops in the order of the published type.
 
 // The published files carry more than the oracle asks for.
-#![allow(dead_code, unused_imports)]
+#![allow(dead_code, unused_imports, unused_variables)]
 
 mod assignment;
 mod choice_data;
@@ -32,8 +32,11 @@ mod rng;
 mod shotgun_solver;
 mod status;
 
+mod ask_critical_sets;
 mod ask_plan_check;
 mod ask_reduction;
+mod ask_roster;
+mod ask_search;
 mod ask_union_find;
 mod day;
 mod rows;
@@ -69,6 +72,9 @@ fn part_named(name: &str) -> Option<Part> {
         "union_find" => Some(ask_union_find::answer),
         "reduction" => Some(ask_reduction::answer),
         "plan_check" => Some(ask_plan_check::answer),
+        "critical_sets" => Some(ask_critical_sets::answer),
+        "search" => Some(ask_search::answer),
+        "roster" => Some(ask_roster::answer),
         _ => None,
     }
 }

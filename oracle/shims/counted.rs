@@ -3,13 +3,22 @@
 use std::cell::Cell;
 
 thread_local! {
-    static ROWS_BEFORE_DEDUP: Cell<usize> = const { Cell::new(0) };
+    static ROWS: Cell<usize> = const { Cell::new(0) };
+    static SETS: Cell<usize> = const { Cell::new(0) };
 }
 
 pub(crate) fn rows_before_dedup(count: usize) {
-    ROWS_BEFORE_DEDUP.with(|cell| cell.set(count));
+    ROWS.with(|cell| cell.set(count));
 }
 
 pub(crate) fn last_rows_before_dedup() -> usize {
-    ROWS_BEFORE_DEDUP.with(Cell::get)
+    ROWS.with(Cell::get)
+}
+
+pub(crate) fn sets_before_simplifying(count: usize) {
+    SETS.with(|cell| cell.set(count));
+}
+
+pub(crate) fn last_sets_before_simplifying() -> usize {
+    SETS.with(Cell::get)
 }
