@@ -3,8 +3,8 @@
 import itertools
 import struct
 
-from cases import plan_check
-from cases.common import parts, possible_kinds, random_row, row, rows_bytes, u16s
+from cases import critical_sets, plan_check
+from cases.common import parts, row, rows_bytes, u16s
 from cases.preferences import preference_bytes, random_levels, random_preferences
 
 SEED = 1_006
@@ -112,7 +112,7 @@ def every_tiny_day():
 
 
 def at_the_counts():
-    """64 choices, 24 slots, 200 choosers, 1,024 rows, 64 levels; a map at its limit."""
+    """64 choices, 24 slots, 200 choosers, 1,024 rows, 64 levels; map and sets at their limits."""
     wide = Call(24, 200, [66] * 64, [100] * 64, [0] * 64).but(total_budget=3_000)
     yield wide.body()
     small = Call(24, 3, [0] * 64, [3] * 64, [1] * 64).but(total_budget=2_000, pass_budget=500)
@@ -128,6 +128,9 @@ def at_the_counts():
     apart = [row(4, a, b) for a, b in itertools.combinations(range(46), 2)][:1024]
     yield small.but(rows=apart).body()
     yield small.but(rows=apart, mode=FULL, start_at_last=1).body()
+    for sets, analysis in [(1024, ON), (1025, ON), (1025, OFF), (1025, SIMPLIFIED)]:
+        many = small.but(slots=3, levels=list(range(64)), preferences=critical_sets.chains(sets))
+        yield many.but(analysis=analysis).body()
 
 
 def random_day(draws, choices, slots, choosers):
