@@ -1,10 +1,11 @@
-"""The scope's rules, written from its text and not from the Rust.
+"""The scope's rules, written after its text; README.md names the few places where the
+text points to the Rust or leaves something open, and the Rust's reading is taken.
 
 `oracle/compare` holds these against the Rust's answers: where they part, the
 scope and the Rust part. Nothing here makes an answer of a case file.
 """
 
-from cases.common import OMITTED, parts, row
+from cases.common import OMITTED, parts
 
 MOST_ROWS = 1024
 MOST_SETS = 1024

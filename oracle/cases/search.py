@@ -4,7 +4,7 @@ import itertools
 import struct
 
 from cases import critical_sets, plan_check
-from cases.common import parts, row, rows_bytes, u16s
+from cases.common import parts, random_row, row, rows_bytes, u16s
 from cases.preferences import preference_bytes, random_levels, random_preferences
 
 SEED = 1_006
@@ -179,17 +179,37 @@ def lend(draws, call):
     call.total_budget = draws.pick([draws.below(40), draws.below(200), 20_000, 20_000, 20_000])
 
 
+def random_tight(draws):
+    """Sums with little to spare, so that the walk goes back often before it finds a plan
+    or gives up."""
+    slots, choices = draws.between(2, 4), draws.between(7, 11)
+    choosers = draws.between(8, 30)
+    maxs = plan_check.split(draws, slots * choosers + draws.below(6), range(choices))
+    mins = [most - min(most, draws.below(5)) for most in maxs]
+    optional = [int(draws.chance(0.15)) for _ in range(choices)]
+    call = Call(slots, choosers, mins, maxs, optional)
+    kinds = [draws.pick([2, 3, 4, 4, 5, 6]) for _ in range(draws.below(4))]
+    call.rows = [random_row(draws, kind, choices, slots, choosers) for kind in kinds]
+    return call
+
+
 def random_case(draws):
+    if draws.chance(0.06):
+        return finished(draws, random_tight(draws))
     if draws.chance(0.005):
         choices, slots, choosers = draws.between(12, 40), draws.between(3, 12), draws.between(0, 12)
     else:
         choices = draws.between(0, 7)
         slots = draws.between(0, min(4, choices + (draws.below(8) == 0)))
         choosers = draws.pick([0, 1, 2, draws.between(0, 9)])
-    call = random_day(draws, choices, slots, choosers)
-    count = len(call.preferences)
+    return finished(draws, random_day(draws, choices, slots, choosers))
+
+
+def finished(draws, call):
+    """The call with levels, preferences and all that is lent."""
+    choices, choosers = len(call.mins), len(call.preferences)
     call.levels = random_levels(draws, draws.between(1, 4))
-    call.preferences = random_preferences(draws, choices, count, call.levels)
+    call.preferences = random_preferences(draws, choices, choosers, call.levels)
     lend(draws, call)
     return call.body()
 
