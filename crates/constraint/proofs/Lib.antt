@@ -1,4 +1,5 @@
 pub mod CheckLaws
+pub mod KeptLaws
 pub mod KindLaws
 pub mod Outcomes
 pub mod RowLaws
