@@ -1,0 +1,4 @@
+-- The laws of the union-find, and what its functions' proofs cite.
+pub mod Entry
+pub mod Root
+pub mod Linking
