@@ -14,9 +14,13 @@ keepBelow (suc n) p = keepBelow n p ++ cond (p n) (n ∷ []) []
 unfoldable pub classOf : ℕ → (ℕ → ℕ) → ℕ → List ℕ
 classOf n f value = keepBelow n (λ i. eqb (f i) value)
 
--- the classes of the values that stand for themselves, by rising value
+-- the numbers below the bound that are their own value, rising
+unfoldable pub heads : ℕ → (ℕ → ℕ) → List ℕ
+heads n f = keepBelow n (λ r. eqb (f r) r)
+
+-- the class of each such number, by rising value
 unfoldable pub classes : ℕ → (ℕ → ℕ) → List (List ℕ)
-classes n f = map (classOf n f) (keepBelow n (λ r. eqb (f r) r))
+classes n f = map (classOf n f) (heads n f)
 
 -- where each of the lists ends if they are written one after another from a place on
 unfoldable pub endsFrom : ℕ → List (List ℕ) → List ℕ

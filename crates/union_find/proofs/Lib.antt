@@ -2,3 +2,5 @@
 pub mod Entry
 pub mod Root
 pub mod Linking
+pub mod Writing
+pub mod Grouping

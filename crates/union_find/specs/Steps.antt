@@ -12,6 +12,12 @@ unfoldable pub Ends : ℕ → List ℕ → ℕ → Type 0
 Ends zero parents i = (i < 64) × (getD parents i 0 ≡ 255)
 Ends (suc left) parents i = (i < 64) × ((getD parents i 0 ≡ 255 → ⊥) → Ends left parents (getD parents i 0))
 
+-- 64 parents, along which the climb from each of the elements ends
+pub record Climbs (parents : List ℕ) (choices : ℕ) : Type 0 where
+  pub wide : length parents ≡ 64
+  pub small : choices ≤ 64
+  pub ends : (i : ℕ) → i < choices → Ends 64 parents i
+
 -- two places of the record whose heights are in their range
 pub record Fits (uf : UnionFind) (left right : ℕ) : Type 0 where
   pub left-in : left < 64

@@ -4,11 +4,13 @@ ghost use mathlib.Core.Path.{_≡_};
 ghost use Prim.Native.Nat.{ℕ, _+_, _-_, _≤_, _<_, max};
 ghost use lib.ListN.{length, getD, replicate};
 ghost use lib.Seq.{sets};
+ghost use mathlib.Core.List.{[]};
 ghost use Rattle.lists.specs.Below.{allBelow};
 ghost use Rattle.lists.specs.Group.{classOf, classes};
+ghost use Rattle.lists.specs.Pool.{pad};
 ghost use Rattle.union_find.specs.Answers.{done, foundTells, groupedTells};
 ghost use Rattle.union_find.specs.State.{fresh, state, heightOf, soundAt, taken, climb, findOf, joinedTells, refusedJoin, linked, hung, joinOf};
-ghost use Rattle.union_find.specs.Steps.{Ends, Fits};
+ghost use Rattle.union_find.specs.Steps.{Ends, Climbs, Fits};
 ghost use Rattle.union_find.specs.Groups.{groupsTell, groupsWritten, groupsOf};
 
 // 'The state of parents and heights is one record by value'; the parent 255 stands for none.
@@ -90,10 +92,7 @@ impl UnionFind {
         if ends.len() != 64 {
             return Grouped::Refused(Refusal::Length);
         }
-        let roots = roots_of(&self.parents, choices);
-        clear(members);
-        clear(ends);
-        Grouped::Groups(write_groups(&roots, choices, members, ends))
+        Grouped::Groups(write_all(&self.parents, choices, members, ends))
     }
 
     // A join that is refused.
@@ -207,7 +206,7 @@ fn climb(parents: &[u8], element: usize, steps: usize) -> usize
 
 // The root of each of the first C elements.
 fn roots_of(parents: &[u8], choices: usize) -> [u8; 64]
-    requires { ⌜ (length (now parents) ≡ 64) × (choices ≤ 64) × ((i : ℕ) → i < choices → Ends 64 (now parents) i) ⌝ }
+    requires { ⌜ Climbs (now parents) choices ⌝ }
     ensures { λ r. ⌜ (length r ≡ 64) × ((i : ℕ) → i < choices → getD r i 0 ≡ climb 64 (now (parents .entry)) i) ⌝ }
 {
     let mut roots = zeros();
@@ -237,9 +236,20 @@ fn clear(pool: &mut [u8])
     }
 }
 
+// The roots, two clear pools, and the classes in them.
+fn write_all(parents: &[u8], choices: usize, members: &mut [u8], ends: &mut [u8]) -> usize
+    requires { ⌜ Climbs (now parents) choices × (length (now members) ≡ 64) × (length (now ends) ≡ 64) ⌝ }
+    ensures { λ r. ⌜ groupsTell (done r) (now (members .exit)) (now (ends .exit)) ≡ groupsWritten (classes choices (climb 64 (now (parents .entry)))) ⌝ }
+{
+    let roots = roots_of(parents, choices);
+    clear(members);
+    clear(ends);
+    write_groups(&roots, choices, members, ends)
+}
+
 // The classes of equal root by rising root, written into two clear pools.
 fn write_groups(roots: &[u8], choices: usize, members: &mut [u8], ends: &mut [u8]) -> usize
-    requires { ⌜ (length (now roots) ≡ 64) × (choices ≤ 64) × (now members ≡ replicate 64 0) × (now ends ≡ replicate 64 0) ⌝ }
+    requires { ⌜ (length (now roots) ≡ 64) × (choices ≤ 64) × (now members ≡ pad 64 []) × (now ends ≡ pad 64 []) ⌝ }
     ensures { λ r. ⌜ groupsTell (done r) (now (members .exit)) (now (ends .exit)) ≡ groupsWritten (classes choices (λ i. getD (now (roots .entry)) i 0)) ⌝ }
 {
     let mut count = 0;

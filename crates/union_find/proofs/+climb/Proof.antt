@@ -1,3 +1,4 @@
+-- The climb: 64 minus the steps climbed falls, since a climb that ends has a step left wherever there is a parent.
 use mathlib.Core.Path.{_≡_, sym, _∙_}
 use Prim.Native.Nat.{ℕ, _-_, _<_}
 use native.Mathlib.Omega.{arith}
@@ -20,7 +21,6 @@ climb-at t = and 1 climb-kinds.ps (is 1 climb-kinds.ps μ-climb t) climb.Pre
 abbrev climb-below : ℕ → In 1 climb-kinds.ps
 climb-below t = and 1 climb-kinds.ps (falls 1 climb-kinds.ps _<_ μ-climb t) climb.Pre
 
--- src/lib.rt:201:23
 climb-shared-slice-read-wide : (t : ℕ) → climb-lts.Need-shared-slice-read-wide (
   wide-reads.Asked,
   wide-reads.Learnt,
@@ -31,7 +31,6 @@ climb-shared-slice-read-wide t c =
     let h = c .before .before .pre .1 in
     rw (h .0) (ends-in _ _ _ (h .1))
 
--- src/lib.rt:201:9
 climb-wide-requires : (t : ℕ) → climb-lts.Need-wide-requires (
   wide-reads.Asked,
   wide-reads.Learnt,
@@ -40,7 +39,6 @@ climb-wide-requires : (t : ℕ) → climb-lts.Need-wide-requires (
 ) (climb-at t) climb.Post
 climb-wide-requires t c κs = tt
 
--- src/lib.rt:203:9
 climb-returns : (t : ℕ) → climb-lts.Need-returns (
   wide-reads.Asked,
   wide-reads.Learnt,
@@ -49,7 +47,6 @@ climb-returns : (t : ℕ) → climb-lts.Need-returns (
 ) (climb-at t) climb.Post
 climb-returns t c = sym (climb-here _ _ _ (sym (c .before .wide .ensures) ∙ c .if1 .taken))
 
--- src/lib.rt:205:28
 climb-add-climb : (t : ℕ) → climb-lts.Need-add-climb (
   wide-reads.Asked,
   wide-reads.Learnt,
@@ -60,7 +57,6 @@ climb-add-climb t c =
     let k = next _ _ _ (c .before .before .before .before .pre .1 .1) (λ z. c .if1 .left (c .before .wide .ensures ∙ z)) in
     omega (arith, k .room)
 
--- src/lib.rt:205:5
 climb-climb-requires : (t : ℕ) → climb-lts.Need-climb-requires (
   wide-reads.Asked,
   wide-reads.Learnt,
@@ -73,7 +69,6 @@ climb-climb-requires t c κs =
     let k = next _ _ _ (h .1) (λ z. c .if1 .left (e ∙ z)) in
     (omega (arith, k .room, c .before .before .before .before .pre .0), (h .0, rw e (k .ends)))
 
--- src/lib.rt:197:1
 climb-returns-2 : (t : ℕ) → climb-lts.Need-returns-2 (
   wide-reads.Asked,
   wide-reads.Learnt,

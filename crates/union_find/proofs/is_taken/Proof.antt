@@ -1,3 +1,4 @@
+-- The invariant: every entry passed is sound.
 use mathlib.Core.Path.{_≡_, refl, sym, _∙_}
 use mathlib.Core.Bool.{true}
 use Prim.Native.Nat.{_≤_, _-_}
@@ -10,9 +11,6 @@ use Rattle.union_find.specs.State.{state, soundAt}
 use Rattle.union_find.proofs.Entry.{taken-over, taken-unsound, taken-sound}
 use Rattle.union_find.proofs.is_taken.Statement.{statement}
 use Rattle.union_find.proofs.is_taken.Tie as tie
-use Rattle.union_find.proofs.is_taken.Reads as reads
-use Rattle.union_find.proofs.is_taken.Lts as lts
-use Rattle.union_find.proofs.is_sound.Reads as is-sound-reads
 
 abbrev Inv-loop : tie.InvT-loop
 Inv-loop parents heights choices i₀ i =
@@ -21,36 +19,28 @@ Inv-loop parents heights choices i₀ i =
 abbrev μ-loop : tie.MeasureT-loop
 μ-loop parents heights choices i₀ i = choices - i
 
--- src/lib.rt:165:9
 returns : tie.Need-returns Inv-loop μ-loop
 returns c = sym (taken-over _ _ (c .if1 .taken))
 
--- src/lib.rt:168:5
 loop-holds : tie.Need-loop-holds Inv-loop μ-loop
 unfolding allBelow
 loop-holds c = (search needs, c .if1 .left, refl)
 
--- src/lib.rt:169:13
 is-sound-requires : tie.Need-is-sound-requires Inv-loop μ-loop
 is-sound-requires c κs = search needs
 
--- src/lib.rt:170:13
 returns-2 : tie.Need-returns-2 Inv-loop μ-loop
 returns-2 c = sym (taken-unsound _ _ _ (c .before .before .loop-test .taken) (sym (c .before .is-sound .ensures) ∙ not-true _ (c .if2 .taken)))
 
--- src/lib.rt:172:9
 add-i : tie.Need-add-i Inv-loop μ-loop
 add-i c = search needs
 
--- src/lib.rt:168:5
 loop-less : tie.Need-loop-less Inv-loop μ-loop
 loop-less c = search needs
 
--- src/lib.rt:168:5
 loop-again : tie.Need-loop-again Inv-loop μ-loop
 loop-again c = (search needs, search needs, all-more _ _ (c .before .before .before .loop .inv .2) (sym (c .before .is-sound .ensures) ∙ not-false _ (c .if2 .left)))
 
--- src/lib.rt:160:1
 returns-3 : tie.Need-returns-3 Inv-loop μ-loop
 returns-3 c =
     let e : c .before .loop .i ≡ c .before .before .before .before .before .args .choices = omega arith in
