@@ -4,3 +4,5 @@ pub mod Root
 pub mod Linking
 pub mod Writing
 pub mod Grouping
+pub mod Way
+pub mod Together
