@@ -6,3 +6,4 @@ pub mod Writing
 pub mod Grouping
 pub mod Way
 pub mod Together
+pub mod Made
