@@ -1,0 +1,164 @@
+// Files of cases with their expected answers, as the oracle writes them: records, each with the length of its rest before it.
+// Reading past a record's end gives 0, so that a damaged file shows as a difference.
+use libc::STDOUT_FILENO;
+ghost use mathlib.Core.Path.{_≡_};
+ghost use Prim.Native.Nat.{_≤_};
+ghost use lib.ListN.{length, getD};
+ghost use Rattle.cases.specs.Numbers.{wordAt, numberAt};
+
+// What the next record of a file is: its length, or the end of the file, or a record that is cut short or too long for the buffer.
+pub enum Next {
+    Record(usize),
+    End,
+    Broken,
+}
+
+// How many cases were compared and how many differed, and the number of the first that did.
+pub struct Tally {
+    pub cases: u64,
+    pub differ: u64,
+    pub first: u64,
+}
+
+impl Tally {
+    // Before the first case.
+    pub fn new() -> Tally
+        ensures { λ r. ⌜ (r .cases ≡ 0) × (r .differ ≡ 0) × (r .first ≡ 0) ⌝ }
+    {
+        Tally {
+            cases: 0,
+            differ: 0,
+            first: 0,
+        }
+    }
+
+    // One case more.
+    pub fn with(self, agrees: bool) -> Tally {
+        let cases = std::num::wrapping_add_u64(self.cases, 1);
+        if agrees {
+            return Tally {
+                cases,
+                differ: self.differ,
+                first: self.first,
+            };
+        }
+        if self.differ == 0 {
+            return Tally {
+                cases,
+                differ: 1,
+                first: self.cases,
+            };
+        }
+        Tally {
+            cases,
+            differ: std::num::wrapping_add_u64(self.differ, 1),
+            first: self.first,
+        }
+    }
+
+    // One line: the name, how many agreed, how many differ, and which case was the first to differ.
+    pub fn tell(self, name: &[u8]) {
+        io::write_all(STDOUT_FILENO, name);
+        io::write_all(STDOUT_FILENO, b" ");
+        io::print_decimal(
+            STDOUT_FILENO,
+            std::num::wrapping_sub_u64(self.cases, self.differ),
+        );
+        io::write_all(STDOUT_FILENO, b" agreed, ");
+        io::print_decimal(STDOUT_FILENO, self.differ);
+        io::write_all(STDOUT_FILENO, b" differ");
+        if 0 < self.differ {
+            io::write_all(STDOUT_FILENO, b", first at case ");
+            io::print_decimal(STDOUT_FILENO, self.first);
+        }
+        io::write_all(STDOUT_FILENO, b"\n");
+    }
+}
+
+// A byte as a number.
+fn wide(byte: u8) -> u64
+    ensures { λ r. ⌜ r ≡ byte ⌝ }
+{
+    byte as u64
+}
+
+// The byte at a place, 0 past the end.
+pub fn byte(bytes: &[u8], at: usize) -> u8
+    ensures { λ r. ⌜ r ≡ getD (now (bytes .entry)) at 0 ⌝ }
+{
+    if bytes.len() <= at {
+        return 0;
+    }
+    bytes[at]
+}
+
+// The two bytes from a place on, high byte first.
+pub fn word(bytes: &[u8], at: usize) -> u16
+    ensures { λ r. ⌜ r ≡ wordAt (now (bytes .entry)) at ⌝ }
+{
+    if 0xffff_ffff < at {
+        return 0;
+    }
+    (byte(bytes, at) as u16) * 256 + (byte(bytes, at + 1) as u16)
+}
+
+// The eight bytes from a place on, high byte first.
+pub fn number(bytes: &[u8], at: usize) -> u64
+    ensures { λ r. ⌜ r ≡ numberAt (now (bytes .entry)) at ⌝ }
+{
+    if 0xffff_ffff < at {
+        return 0;
+    }
+    (word(bytes, at) as u64) * 0x1_0000_0000_0000
+        + (word(bytes, at + 2) as u64) * 0x1_0000_0000
+        + (word(bytes, at + 4) as u64) * 0x1_0000
+        + (word(bytes, at + 6) as u64)
+}
+
+// Opens the file of cases in the folder that the program runs in.
+pub fn open() -> i32 {
+    os::open_read(b"cases")
+}
+
+// Reads the next record's bytes to the buffer's front.
+pub fn read_next(file: i32, buffer: &mut [u8]) -> Next {
+    let mut head = [0u8; 4];
+    let got = io::read_full(file, &mut head);
+    if got == 0 {
+        return Next::End;
+    }
+    if got < 4 {
+        return Next::Broken;
+    }
+    let size = length_of(&head);
+    if buffer.len() < size {
+        return Next::Broken;
+    }
+    let body = io::read_full(file, &mut buffer[..size]);
+    if body < size {
+        return Next::Broken;
+    }
+    Next::Record(size)
+}
+
+// The length that a record's first four bytes give.
+fn length_of(head: &[u8]) -> usize {
+    (word(head, 0) as usize) * 65_536 + (word(head, 2) as usize)
+}
+
+// Whether n bytes of one list, from a place on, are those of another from another place on; past its end a list has zeros.
+pub fn same(one: &[u8], from: usize, other: &[u8], at: usize, n: usize) -> bool {
+    let mut i = 0;
+    while i < n {
+        if byte(one, plus(from, i)) != byte(other, plus(at, i)) {
+            return false;
+        }
+        i += 1;
+    }
+    true
+}
+
+// The sum of two places; it wraps where no list reaches.
+pub fn plus(a: usize, b: usize) -> usize {
+    std::num::wrapping_add_usize(a, b)
+}
