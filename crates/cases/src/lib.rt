@@ -162,3 +162,34 @@ pub fn same(one: &[u8], from: usize, other: &[u8], at: usize, n: usize) -> bool 
 pub fn plus(a: usize, b: usize) -> usize {
     std::num::wrapping_add_usize(a, b)
 }
+
+// Fills a list with the words from a place on.
+pub fn read_words(bytes: &[u8], from: usize, words: &mut [u16]) {
+    let mut at = from;
+    let mut i = 0;
+    while i < words.len() {
+        words[i] = word(bytes, at);
+        at = plus(at, 2);
+        i += 1;
+    }
+}
+
+// Fills a list with the bytes from a place on.
+pub fn read_bytes(bytes: &[u8], from: usize, out: &mut [u8]) {
+    let mut i = 0;
+    while i < out.len() {
+        out[i] = byte(bytes, plus(from, i));
+        i += 1;
+    }
+}
+
+// Fills a list with the numbers of eight bytes from a place on: rows, as a pool holds them.
+pub fn read_numbers(bytes: &[u8], from: usize, numbers: &mut [u64]) {
+    let mut at = from;
+    let mut i = 0;
+    while i < numbers.len() {
+        numbers[i] = number(bytes, at);
+        at = plus(at, 8);
+        i += 1;
+    }
+}
