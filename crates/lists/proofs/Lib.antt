@@ -3,3 +3,4 @@ pub mod AllBelow
 pub mod CountBelow
 pub mod Pad
 pub mod Group
+pub mod Partition

@@ -7,3 +7,5 @@ pub mod Grouping
 pub mod Way
 pub mod Together
 pub mod Made
+pub mod Partition
+pub mod Settled
