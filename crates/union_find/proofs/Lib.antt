@@ -9,3 +9,4 @@ pub mod Together
 pub mod Made
 pub mod Partition
 pub mod Settled
+pub mod Joins

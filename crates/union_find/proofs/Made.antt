@@ -20,7 +20,7 @@ use Rattle.union_find.specs.Answers.{done}
 use Rattle.union_find.specs.State.{fresh, parentOf, heightOf, taken, rootOf, hung, linked, joinOf, joinFrom, joinAll}
 use Rattle.union_find.proofs.Entry.{Sound, taken-of}
 use Rattle.union_find.proofs.Linking.{linked-same, linked-left, linked-right, join-left-out, join-right-out, join-links}
-use Rattle.union_find.proofs.Way.{Pair, moved, moved-lower, moved-other, top-root, root-below, root-top, root-hung, hung-sound, parent-lo, parent-other, height-hi, height-other}
+use Rattle.union_find.proofs.Way.{Way, Pair, way-ends, way-rises, root-way, moved, moved-lower, moved-other, top-root, root-below, root-top, root-hung, hung-sound, parent-lo, parent-other, height-hi, height-other}
 
 -- how many members the group of a root has
 unfoldable pub sizeOf : ℕ → UnionFind → ℕ → ℕ
@@ -39,7 +39,7 @@ pub record Made (c : ℕ) (uf : UnionFind) : Type 0 where
 
 -- ---- the fresh state
 
-fresh-top : (i : ℕ) → i < 64 → parentOf fresh i ≡ 255
+pub fresh-top : (i : ℕ) → i < 64 → parentOf fresh i ≡ 255
 unfolding fresh
 fresh-top i l = getD-replicate 64 i 255 0 l
 
@@ -191,3 +191,16 @@ made-all c m pairs = made-from c fresh (made-fresh c m) pairs
 -- a record made from the fresh state by any joins is never refused
 pub never-refused : (c : ℕ) → c ≤ 64 → (pairs : List (ℕ × ℕ)) → taken c (joinAll c pairs) ≡ true
 never-refused c m pairs = taken-of c _ (made-all c m pairs .sound)
+
+-- a climb takes at most the largest k steps with 2^k at most its group's members, and never over 6
+pub steps-fit : (c : ℕ) (uf : UnionFind) → Made c uf → (i : ℕ) → i < c → (n : ℕ) × Way (uf .parents) n i (rootOf uf i) × (2 ^ n ≤ sizeOf c uf (rootOf uf i)) × (n ≤ 6)
+steps-fit c uf m i l =
+    let w = root-way c uf (m .sound) i l in
+    let h = way-rises c uf (m .sound) (w .1) l in
+    let e = way-ends (w .1) in
+    let a : w .0 ≤ heightOf uf (rootOf uf i) = omega arith in (
+      w .0,
+      w .1,
+      le-trans (pow-le-pow-right {n = 2} (omega arith) a) (m .size _ (h .0) e),
+      le-trans a (height-six c uf m _ (h .0) e),
+    )
