@@ -2,7 +2,7 @@
 use mathlib.Core.Path.{_≡_, refl, sym, ap, subst, _∙_}
 use mathlib.Core.Bool.{Bool, true, false}
 use mathlib.Core.List.{List, [], _∷_, List·Memᴰ, List·Memᴰ·head, List·Memᴰ·tail, List·Memᴰ·not-nil, List·Memᴰ·cases-cons}
-use mathlib.Core.Logic.{_↔_, _⊎_, inl, inr, ⊎-elim}
+use mathlib.Core.Logic.{_↔_, inl, ⊎-elim}
 use Prim.Native.Nat.{ℕ, _≤_, _<_}
 use native.Mathlib.Omega.{arith}
 use borrow.Author.Tests.{ltb-true, ltb-false}
@@ -11,7 +11,7 @@ use lib.ListN.{length}
 use Rattle.lists.specs.Group.{classes}
 use Rattle.union_find.specs.declared.UnionFind.{UnionFind}
 use Rattle.union_find.specs.Answers.{done}
-use Rattle.union_find.specs.State.{fresh, parentOf, taken, rootOf, findOf, joinOf, joinFrom, joinAll}
+use Rattle.union_find.specs.State.{fresh, taken, rootOf, findOf, joinOf, joinFrom, joinAll}
 use Rattle.union_find.specs.Groups.{groupsWritten, groupsOf}
 use Rattle.union_find.proofs.Entry.{taken-of}
 use Rattle.union_find.proofs.Root.{find-root}
@@ -19,7 +19,7 @@ use Rattle.union_find.proofs.Linking.{join-left-out, join-right-out}
 use Rattle.union_find.proofs.Way.{top-root}
 use Rattle.union_find.proofs.Together.{Either, Merged, join-merges, join-one}
 use Rattle.union_find.proofs.Grouping.{groups-wrote}
-use Rattle.union_find.proofs.Made.{Made, made-fresh, made-join, made-all, fresh-top, never-refused}
+use Rattle.union_find.proofs.Made.{Made, made-fresh, made-join, fresh-top, never-refused}
 
 -- ---- find and groups after joins from the fresh state
 

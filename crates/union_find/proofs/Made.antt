@@ -2,21 +2,20 @@
 use mathlib.Core.Path.{_≡_, refl, sym, ap, _∙_}
 use mathlib.Core.Bool.{Bool, true, false}
 use mathlib.Core.List.{List, [], _∷_}
-use mathlib.Core.Logic.{_↔_, ⊎-elim}
-use Prim.Native.Nat.{ℕ, zero, suc, _+_, _≤_, _<_, _^_, max}
+use mathlib.Core.Logic.{⊎-elim}
+use Prim.Native.Nat.{ℕ, _+_, _≤_, _<_, _^_, max}
 use native.Mathlib.Decide.{ℕ-discrete}
 use native.Mathlib.Nat.{pow-le-pow-right, two-pow-succ, max-eq-left, max-eq-right, eq-or-lt-of-le, le-trans}
 use native.Mathlib.Numerals.{add-one}
 use native.Mathlib.Omega.{arith}
 use borrow.Author.Tests.{eq-eqb, ne-eqb, ltb-true, ltb-false, leb-true, leb-false}
 use lib.Dec.{eqb, ltb, leb}
-use lib.ListN.{length, replicate, set, length-set, length-replicate, getD-replicate}
+use lib.ListN.{length, length-set, length-replicate, getD-replicate}
 use Rattle.lists.specs.Below.{one, countBelow}
 use Rattle.lists.specs.Group.{classOf}
 use Rattle.lists.proofs.CountBelow.{count-le, count-ext, count-misses, count-sum}
 use Rattle.lists.proofs.Group.{length-class}
 use Rattle.union_find.specs.declared.UnionFind.{UnionFind}
-use Rattle.union_find.specs.Answers.{done}
 use Rattle.union_find.specs.State.{fresh, parentOf, heightOf, taken, rootOf, hung, linked, joinOf, joinFrom, joinAll}
 use Rattle.union_find.proofs.Entry.{Sound, taken-of}
 use Rattle.union_find.proofs.Linking.{linked-same, linked-left, linked-right, join-left-out, join-right-out, join-links}

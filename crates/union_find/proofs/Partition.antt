@@ -6,7 +6,7 @@ use mathlib.Core.Logic.{_↔_}
 use Prim.Native.Nat.{ℕ, _≤_, _<_}
 use lib.ListN.{getD}
 use Rattle.lists.specs.Group.{classOf, heads, classes, timesIn, Rising}
-use Rattle.lists.proofs.Partition.{Keeps, classes-once, classes-none, class-there, class-has, one-class, class-rises, heads-rise, classes-names}
+use Rattle.lists.proofs.Partition.{Keeps, classes-once, classes-none, class-there, one-class, class-rises, heads-rise, classes-names}
 use Rattle.union_find.specs.declared.UnionFind.{UnionFind}
 use Rattle.union_find.specs.State.{taken, rootOf}
 use Rattle.union_find.proofs.Entry.{sound-of}
