@@ -1,6 +1,8 @@
+-- The laws of the rows, the table, the row check and the numbers that calls hand back.
 pub mod CheckLaws
 pub mod KeptLaws
 pub mod KindLaws
+pub mod Numbers
 pub mod Outcomes
 pub mod RowLaws
 pub mod SignedLaws

@@ -7,4 +7,5 @@ pub mod Group
 pub mod Lists
 pub mod Outcome
 pub mod Pad
+pub mod Partition
 pub mod Pool

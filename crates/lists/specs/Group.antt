@@ -1,9 +1,10 @@
 -- Numbers below a bound that pass a test, classes of equal value, and where each list of several ends.
-use mathlib.Core.Bool.{Bool, true, false, cond}
+use mathlib.Core.Bool.{Bool, cond}
 use mathlib.Core.List.{List, [], _∷_, _++_, map}
-use Prim.Native.Nat.{ℕ, zero, suc, _+_}
+use Prim.Native.Nat.{ℕ, zero, suc, _+_, _<_}
 use lib.Dec.{eqb}
-use lib.ListN.{length}
+use lib.ListN.{length, getD}
+use Rattle.lists.specs.Below.{one}
 
 -- the numbers below the bound that pass the test, rising
 unfoldable pub keepBelow : ℕ → (ℕ → Bool) → List ℕ
@@ -26,3 +27,12 @@ classes n f = map (classOf n f) (heads n f)
 unfoldable pub endsFrom : ℕ → List (List ℕ) → List ℕ
 endsFrom at [] = []
 endsFrom at (l ∷ ls) = (at + length l) ∷ endsFrom (at + length l) ls
+
+-- how often a number stands in a list
+unfoldable pub timesIn : ℕ → List ℕ → ℕ
+timesIn x [] = 0
+timesIn x (y ∷ l) = one (eqb x y) + timesIn x l
+
+-- each entry of a list is below the next
+unfoldable pub Rising : List ℕ → Type 0
+Rising l = (i : ℕ) → suc i < length l → getD l i 0 < getD l (suc i) 0

@@ -1,16 +1,14 @@
 -- Which records are taken: a law for each way through the check, and what a record that is taken has.
-use mathlib.Core.Path.{_≡_, refl, sym, ap, _∙_}
-use mathlib.Core.Bool.{Bool, true, false, cond, _&&_, _||_, and-false, or-false, or-true}
-use mathlib.Core.List.{List}
-use Prim.Native.Nat.{ℕ, _+_, _≤_, _<_}
+use mathlib.Core.Path.{_≡_, _∙_}
+use mathlib.Core.Bool.{true, false, and-false}
+use Prim.Native.Nat.{ℕ, _≤_, _<_}
 use native.Mathlib.Decide.{ℕ-discrete}
-use borrow.Author.Tests.{lt-ltb, le-ltb, lt-leb, le-leb, eq-eqb, ne-eqb, ltb-true, leb-true, eqb-true}
-use lib.Dec.{eqb, ltb, leb}
-use lib.ListN.{getD}
+use borrow.Author.Tests.{lt-ltb, le-ltb, lt-leb, le-leb, eq-eqb, ne-eqb, ltb-true, leb-true}
+use lib.Dec.{ltb, leb}
 use Rattle.lists.specs.Below.{allBelow}
 use Rattle.lists.proofs.AllBelow.{both, all-at, all-of, all-fails}
 use Rattle.union_find.specs.declared.UnionFind.{UnionFind}
-use Rattle.union_find.specs.State.{state, parentOf, heightOf, soundAt, taken}
+use Rattle.union_find.specs.State.{parentOf, heightOf, soundAt, taken}
 
 module _ (c : ℕ) (uf : UnionFind) (i : ℕ) where
   -- a height over 64

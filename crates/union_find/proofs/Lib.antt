@@ -7,3 +7,6 @@ pub mod Grouping
 pub mod Way
 pub mod Together
 pub mod Made
+pub mod Partition
+pub mod Settled
+pub mod Joins

@@ -1,9 +1,8 @@
 -- The join: a law for each way through it.
 use mathlib.Core.Path.{_≡_}
-use mathlib.Core.Bool.{true, false, cond, _&&_, and-false}
+use mathlib.Core.Bool.{true, false, and-false}
 use Prim.Native.Nat.{ℕ, _≤_, _<_}
 use borrow.Author.Tests.{lt-ltb, le-ltb, eq-eqb, ne-eqb}
-use lib.Dec.{eqb, ltb}
 use Rattle.union_find.specs.declared.UnionFind.{UnionFind}
 use Rattle.union_find.specs.Answers.{done}
 use Rattle.union_find.specs.State.{heightOf, taken, rootOf, joinedTells, refusedJoin, hung, linked, joinOf}

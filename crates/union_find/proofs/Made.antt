@@ -2,25 +2,24 @@
 use mathlib.Core.Path.{_≡_, refl, sym, ap, _∙_}
 use mathlib.Core.Bool.{Bool, true, false}
 use mathlib.Core.List.{List, [], _∷_}
-use mathlib.Core.Logic.{_↔_, ⊎-elim}
-use Prim.Native.Nat.{ℕ, zero, suc, _+_, _≤_, _<_, _^_, max}
+use mathlib.Core.Logic.{⊎-elim}
+use Prim.Native.Nat.{ℕ, _+_, _≤_, _<_, _^_, max}
 use native.Mathlib.Decide.{ℕ-discrete}
 use native.Mathlib.Nat.{pow-le-pow-right, two-pow-succ, max-eq-left, max-eq-right, eq-or-lt-of-le, le-trans}
 use native.Mathlib.Numerals.{add-one}
 use native.Mathlib.Omega.{arith}
 use borrow.Author.Tests.{eq-eqb, ne-eqb, ltb-true, ltb-false, leb-true, leb-false}
 use lib.Dec.{eqb, ltb, leb}
-use lib.ListN.{length, replicate, set, length-set, length-replicate, getD-replicate}
+use lib.ListN.{length, length-set, length-replicate, getD-replicate}
 use Rattle.lists.specs.Below.{one, countBelow}
 use Rattle.lists.specs.Group.{classOf}
 use Rattle.lists.proofs.CountBelow.{count-le, count-ext, count-misses, count-sum}
 use Rattle.lists.proofs.Group.{length-class}
 use Rattle.union_find.specs.declared.UnionFind.{UnionFind}
-use Rattle.union_find.specs.Answers.{done}
 use Rattle.union_find.specs.State.{fresh, parentOf, heightOf, taken, rootOf, hung, linked, joinOf, joinFrom, joinAll}
 use Rattle.union_find.proofs.Entry.{Sound, taken-of}
 use Rattle.union_find.proofs.Linking.{linked-same, linked-left, linked-right, join-left-out, join-right-out, join-links}
-use Rattle.union_find.proofs.Way.{Pair, moved, moved-lower, moved-other, top-root, root-below, root-top, root-hung, hung-sound, parent-lo, parent-other, height-hi, height-other}
+use Rattle.union_find.proofs.Way.{Way, Pair, way-ends, way-rises, root-way, moved, moved-lower, moved-other, top-root, root-below, root-top, root-hung, hung-sound, parent-lo, parent-other, height-hi, height-other}
 
 -- how many members the group of a root has
 unfoldable pub sizeOf : ℕ → UnionFind → ℕ → ℕ
@@ -39,7 +38,7 @@ pub record Made (c : ℕ) (uf : UnionFind) : Type 0 where
 
 -- ---- the fresh state
 
-fresh-top : (i : ℕ) → i < 64 → parentOf fresh i ≡ 255
+pub fresh-top : (i : ℕ) → i < 64 → parentOf fresh i ≡ 255
 unfolding fresh
 fresh-top i l = getD-replicate 64 i 255 0 l
 
@@ -191,3 +190,16 @@ made-all c m pairs = made-from c fresh (made-fresh c m) pairs
 -- a record made from the fresh state by any joins is never refused
 pub never-refused : (c : ℕ) → c ≤ 64 → (pairs : List (ℕ × ℕ)) → taken c (joinAll c pairs) ≡ true
 never-refused c m pairs = taken-of c _ (made-all c m pairs .sound)
+
+-- a climb takes at most the largest k steps with 2^k at most its group's members, and never over 6
+pub steps-fit : (c : ℕ) (uf : UnionFind) → Made c uf → (i : ℕ) → i < c → (n : ℕ) × Way (uf .parents) n i (rootOf uf i) × (2 ^ n ≤ sizeOf c uf (rootOf uf i)) × (n ≤ 6)
+steps-fit c uf m i l =
+    let w = root-way c uf (m .sound) i l in
+    let h = way-rises c uf (m .sound) (w .1) l in
+    let e = way-ends (w .1) in
+    let a : w .0 ≤ heightOf uf (rootOf uf i) = omega arith in (
+      w .0,
+      w .1,
+      le-trans (pow-le-pow-right {n = 2} (omega arith) a) (m .size _ (h .0) e),
+      le-trans a (height-six c uf m _ (h .0) e),
+    )

@@ -1,5 +1,5 @@
 -- 'Groups, singles included, go by rising root, members rising.'
-use mathlib.Core.Bool.{Bool, true, false, cond, _&&_}
+use mathlib.Core.Bool.{cond, _&&_}
 use mathlib.Core.List.{List, flatten}
 use Prim.Native.Nat.{ℕ}
 use lib.Dec.{eqb}
@@ -16,6 +16,7 @@ pub record GroupsTell : Type 0 where
   pub members : List ℕ
   pub ends : List ℕ
 
+-- all three as one value
 abbrev pub groupsTell : Outcome → List ℕ → List ℕ → GroupsTell
 groupsTell answer members ends = record { answer = answer; members = members; ends = ends }
 

@@ -1,5 +1,5 @@
 -- Module 1's record of parents and heights: which records are taken, the climb to the root, and the join.
-use mathlib.Core.Bool.{Bool, true, false, cond, _&&_, _||_}
+use mathlib.Core.Bool.{Bool, cond, _&&_, _||_}
 use mathlib.Core.List.{List, [], _∷_}
 use Prim.Native.Nat.{ℕ, zero, suc, _+_, max}
 use lib.Dec.{eqb, ltb, leb}
@@ -16,9 +16,11 @@ state parents heights = record { parents = parents; heights = heights }
 unfoldable pub fresh : UnionFind
 fresh = state (replicate 64 255) (replicate 64 0)
 
+-- the parent of an element, 255 for none
 abbrev pub parentOf : UnionFind → ℕ → ℕ
 parentOf uf i = getD (uf .parents) i 0
 
+-- the height of an element
 abbrev pub heightOf : UnionFind → ℕ → ℕ
 heightOf uf i = getD (uf .heights) i 0
 
@@ -50,6 +52,7 @@ pub record JoinedTells : Type 0 where
   pub found : Outcome
   pub state : UnionFind
 
+-- both as one value
 abbrev pub joinedTells : Outcome → UnionFind → JoinedTells
 joinedTells found uf = record { found = found; state = uf }
 

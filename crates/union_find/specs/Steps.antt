@@ -1,7 +1,6 @@
 -- What the private functions of the climb and the join ask of their callers.
 use mathlib.Core.Path.{_≡_}
 use mathlib.Core.List.{List}
-use mathlib.Core.Logic.{_⊎_}
 use Prim.Native.Nat.{ℕ, zero, suc, _≤_, _<_}
 use lib.ListN.{length, getD}
 use Rattle.union_find.specs.declared.UnionFind.{UnionFind}

@@ -5,11 +5,10 @@ ghost use Prim.Native.Nat.{ℕ, _+_, _-_, _≤_, _<_, max};
 ghost use lib.ListN.{length, getD, replicate};
 ghost use lib.Seq.{sets};
 ghost use mathlib.Core.List.{[]};
-ghost use Rattle.lists.specs.Below.{allBelow};
 ghost use Rattle.lists.specs.Group.{classOf, classes};
 ghost use Rattle.lists.specs.Pool.{pad};
 ghost use Rattle.union_find.specs.Answers.{done, foundTells, groupedTells};
-ghost use Rattle.union_find.specs.State.{fresh, state, heightOf, soundAt, taken, climb, findOf, joinedTells, refusedJoin, linked, hung, joinOf};
+ghost use Rattle.union_find.specs.State.{fresh, state, soundAt, taken, climb, findOf, joinedTells, refusedJoin, linked, hung, joinOf};
 ghost use Rattle.union_find.specs.Steps.{Ends, Climbs, Fits};
 ghost use Rattle.union_find.specs.Groups.{groupsTell, groupsWritten, groupsOf};
 

@@ -1,5 +1,5 @@
 -- The climb: 64 minus the steps climbed falls, since a climb that ends has a step left wherever there is a parent.
-use mathlib.Core.Path.{_≡_, sym, _∙_}
+use mathlib.Core.Path.{sym, _∙_}
 use Prim.Native.Nat.{ℕ, _-_, _<_}
 use native.Mathlib.Omega.{arith}
 use Rattle.union_find.proofs.Root.{ends-in, climb-here, next}

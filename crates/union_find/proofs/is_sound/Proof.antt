@@ -1,5 +1,5 @@
 -- Each way out of `is_sound` is a law of `Entry`.
-use mathlib.Core.Path.{_≡_, sym, _∙_}
+use mathlib.Core.Path.{sym, _∙_}
 use Rattle.union_find.proofs.Entry.{sound-high, sound-root, sound-out, sound-up}
 use borrow.Author.Needs.{needs}
 use Rattle.union_find.proofs.is_sound.Statement.{statement}

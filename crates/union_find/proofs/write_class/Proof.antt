@@ -1,10 +1,10 @@
 -- The invariant: the elements passed that belong to the class stand in the pool, from the first place on.
 use mathlib.Core.Path.{_≡_, sym, _∙_}
 use mathlib.Core.Logic.{⊎-elim}
-use Prim.Native.Nat.{_+_, _≤_, _-_}
+use Prim.Native.Nat.{_≤_, _-_}
 use native.Mathlib.Omega.{arith}
 use borrow.Author.Needs.{needs}
-use lib.ListN.{length, getD}
+use lib.ListN.{getD}
 use Rattle.union_find.proofs.Writing.{Class, class-start, class-takes, class-skips, class-length, class-place}
 use Rattle.union_find.proofs.write_class.Statement.{statement}
 use Rattle.union_find.proofs.write_class.Tie as tie

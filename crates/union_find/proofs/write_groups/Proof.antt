@@ -1,10 +1,10 @@
 -- The invariant: the classes of the roots passed stand in the pools.
-use mathlib.Core.Path.{_≡_, refl, sym, ap, _∙_}
+use mathlib.Core.Path.{_≡_, sym, _∙_}
 use mathlib.Core.Logic.{⊎-elim}
-use Prim.Native.Nat.{ℕ, _+_, _≤_, _-_}
+use Prim.Native.Nat.{ℕ, _≤_, _-_}
 use native.Mathlib.Omega.{arith}
 use borrow.Author.Needs.{needs}
-use lib.ListN.{length, getD}
+use lib.ListN.{getD}
 use Rattle.lists.proofs.Group.{groupsTo}
 use Rattle.union_find.proofs.Writing.{Written, written-none, groups-take, groups-skip, groups-count, at-fits, members-length, ends-length, none-length, groups-done}
 use Rattle.union_find.proofs.write_groups.Statement.{statement}

@@ -1,0 +1,47 @@
+-- Groups is the partition into classes of equal root.
+use mathlib.Core.Path.{_≡_}
+use mathlib.Core.Bool.{true}
+use mathlib.Core.List.{List, map, flatten, List·Memᴰ}
+use mathlib.Core.Logic.{_↔_}
+use Prim.Native.Nat.{ℕ, _≤_, _<_}
+use lib.ListN.{getD}
+use Rattle.lists.specs.Group.{classOf, heads, classes, timesIn, Rising}
+use Rattle.lists.proofs.Partition.{Keeps, classes-once, classes-none, class-there, one-class, class-rises, heads-rise, classes-names}
+use Rattle.union_find.specs.declared.UnionFind.{UnionFind}
+use Rattle.union_find.specs.State.{taken, rootOf}
+use Rattle.union_find.proofs.Entry.{sound-of}
+use Rattle.union_find.proofs.Way.{root-below, root-root}
+
+module _ (c : ℕ) (uf : UnionFind) (t : taken c uf ≡ true) where
+  -- a root is an element and its own root
+  pub roots-keep : Keeps c (rootOf uf)
+  unfolding Keeps
+  roots-keep i l =
+      let s = sound-of c uf t in
+      (root-below c uf s i l, root-root c uf s i l)
+
+  -- each element stands in exactly one group, once, and nothing else does
+  pub groups-once : (x : ℕ) → x < c → timesIn x (flatten (classes c (rootOf uf))) ≡ 1
+  groups-once = classes-once c (rootOf uf) roots-keep
+
+  pub groups-none : (x : ℕ) → c ≤ x → timesIn x (flatten (classes c (rootOf uf))) ≡ 0
+  groups-none = classes-none c (rootOf uf)
+
+  -- the group of an element is there
+  pub group-there : (x : ℕ) → x < c → List·Memᴰ (classOf c (rootOf uf) (rootOf uf x)) (classes c (rootOf uf))
+  group-there = class-there c (rootOf uf) roots-keep
+
+  -- two elements are in one group exactly if their roots are equal
+  pub one-group : {g : List ℕ} → List·Memᴰ g (classes c (rootOf uf)) → (i j : ℕ) → List·Memᴰ i g → List·Memᴰ j g ↔ ((j < c) × (rootOf uf j ≡ rootOf uf i))
+  one-group m = one-class c (rootOf uf) m
+
+  -- members rise
+  pub members-rise : {g : List ℕ} → List·Memᴰ g (classes c (rootOf uf)) → Rising g
+  members-rise m = class-rises c (rootOf uf) m
+
+  -- groups go by rising root: the root of each one's first member
+  pub groups-roots : map (λ g. rootOf uf (getD g 0 0)) (classes c (rootOf uf)) ≡ heads c (rootOf uf)
+  groups-roots = classes-names c (rootOf uf)
+
+  pub roots-rise : Rising (heads c (rootOf uf))
+  roots-rise = heads-rise c (rootOf uf)
