@@ -1,5 +1,4 @@
 -- The laws of the definitions in specs/.
-pub mod AllBelow
 pub mod Below
 pub mod CountBelow
 pub mod First
@@ -8,4 +7,3 @@ pub mod Lists
 pub mod Outcome
 pub mod Pad
 pub mod Partition
-pub mod Pool

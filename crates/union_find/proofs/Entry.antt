@@ -6,7 +6,7 @@ use native.Mathlib.Decide.{ℕ-discrete}
 use borrow.Author.Tests.{lt-ltb, le-ltb, lt-leb, le-leb, eq-eqb, ne-eqb, ltb-true, leb-true}
 use lib.Dec.{ltb, leb}
 use Rattle.lists.specs.Below.{allBelow}
-use Rattle.lists.proofs.AllBelow.{both, all-at, all-of, all-fails}
+use Rattle.lists.proofs.Below.{and-left, and-right, all-each, each-all, one-fails}
 use Rattle.union_find.specs.declared.UnionFind.{UnionFind}
 use Rattle.union_find.specs.State.{parentOf, heightOf, soundAt, taken}
 
@@ -39,7 +39,7 @@ taken-over c uf h = simp (lt-leb _ _ h)
 -- an entry that isn't sound
 pub taken-unsound : (c : ℕ) (uf : UnionFind) (i : ℕ) → i < c → soundAt c uf i ≡ false → taken c uf ≡ false
 unfolding taken
-taken-unsound c uf i l e = simp (all-fails c (soundAt c uf) i l e, and-false)
+taken-unsound c uf i l e = simp (one-fails c (soundAt c uf) i l e, and-false)
 
 -- every entry sound
 pub taken-sound : (c : ℕ) (uf : UnionFind) → c ≤ 64 → allBelow c (soundAt c uf) ≡ true → taken c uf ≡ true
@@ -56,19 +56,19 @@ pub record Sound (c : ℕ) (uf : UnionFind) : Type 0 where
 pub sound-of : (c : ℕ) (uf : UnionFind) → taken c uf ≡ true → Sound c uf
 unfolding taken soundAt
 sound-of c uf t = record {
-  small = leb-true _ _ (both (leb c 64) (allBelow c (soundAt c uf)) t .0);
-  low = λ i l. leb-true _ _ (both (leb (heightOf uf i) 64) _ (entry i l) .0);
+  small = leb-true _ _ (and-left (leb c 64) (allBelow c (soundAt c uf)) t);
+  low = λ i l. leb-true _ _ (and-left (leb (heightOf uf i) 64) _ (entry i l));
   up = λ i l n.
-      let h = both (ltb (parentOf uf i) c) _ (rw (ne-eqb _ _ n) at (both (leb (heightOf uf i) 64) _ (entry i l) .1)) in
-      (ltb-true _ _ (h .0), ltb-true _ _ (h .1));
+      let h = (rw (ne-eqb _ _ n) at (and-right (leb (heightOf uf i) 64) _ (entry i l))) in
+      (ltb-true _ _ (and-left (ltb (parentOf uf i) c) _ h), ltb-true _ _ (and-right (ltb (parentOf uf i) c) _ h));
 }
   where
     entry : (i : ℕ) → i < c → soundAt c uf i ≡ true
-    entry i l = all-at c (soundAt c uf) (both (leb c 64) (allBelow c (soundAt c uf)) t .1) i l
+    entry i l = all-each c (soundAt c uf) (and-right (leb c 64) (allBelow c (soundAt c uf)) t) i l
 
 pub taken-of : (c : ℕ) (uf : UnionFind) → Sound c uf → taken c uf ≡ true
 taken-of c uf s =
-    taken-sound c uf (s .small) (all-of c (soundAt c uf) λ i l. elim (ℕ-discrete (parentOf uf i) 255) [
+    taken-sound c uf (s .small) (each-all c (soundAt c uf) λ i l. elim (ℕ-discrete (parentOf uf i) 255) [
       | yes e ↦ sound-root c uf i (s .low i l) e
       | no n ↦ sound-up c uf i (s .low i l) n (s .up i l n .0) ∙ lt-ltb _ _ (s .up i l n .1)
     ])

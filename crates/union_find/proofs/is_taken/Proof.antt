@@ -6,7 +6,7 @@ use native.Mathlib.Omega.{arith}
 use borrow.Author.Needs.{needs}
 use borrow.Author.Tests.{not-true, not-false}
 use Rattle.lists.specs.Below.{allBelow}
-use Rattle.lists.proofs.AllBelow.{all-more}
+use Rattle.lists.proofs.Below.{all-more}
 use Rattle.union_find.specs.State.{state, soundAt}
 use Rattle.union_find.proofs.Entry.{taken-over, taken-unsound, taken-sound}
 use Rattle.union_find.proofs.is_taken.Statement.{statement}
