@@ -2,3 +2,5 @@ pub mod Lists
 pub mod Below
 pub mod First
 pub mod Pool
+pub mod All
+pub mod Sums
