@@ -1,5 +1,6 @@
 -- The laws of the rows, the table, the row check and the numbers that calls hand back.
 pub mod CheckLaws
+pub mod CountLaws
 pub mod KeptLaws
 pub mod KindLaws
 pub mod Numbers

@@ -1,4 +1,5 @@
 -- The laws of the definitions in specs/.
+pub mod All
 pub mod Below
 pub mod CountBelow
 pub mod First
@@ -7,3 +8,4 @@ pub mod Lists
 pub mod Outcome
 pub mod Pad
 pub mod Partition
+pub mod Sums

@@ -1,4 +1,5 @@
+pub mod All
 pub mod Below
-pub mod Pool
 pub mod First
 pub mod Group
+pub mod Pool
