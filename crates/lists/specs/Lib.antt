@@ -1,3 +1,4 @@
 pub mod Below
 pub mod Pool
 pub mod First
+pub mod Flat
