@@ -3,9 +3,12 @@ pub mod All
 pub mod Below
 pub mod CountBelow
 pub mod First
+pub mod Flat
 pub mod Group
 pub mod Lists
 pub mod Outcome
 pub mod Pad
 pub mod Partition
+pub mod Stores
 pub mod Sums
+pub mod Through

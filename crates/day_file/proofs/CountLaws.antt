@@ -1,0 +1,149 @@
+-- The ranges of a day's counts: the test's ways, and what it says of each count.
+use mathlib.Core.Path.{_≡_, refl, sym, _∙_, ap}
+use mathlib.Core.Bool.{Bool, true, false, _&&_}
+use Prim.Native.Nat.{ℕ, _+_, _*_, _-_, _≤_, _<_}
+use native.Mathlib.Nat.{le-trans, mul-le-mul-left, mul-le-mul-right}
+use native.Mathlib.Omega.{arith}
+use borrow.Author.Tests.{le-leb, lt-leb, leb-true, eqb-true}
+use lib.Dec.{leb, eqb}
+use Rattle.lists.proofs.Below.{and-left, and-right}
+use Rattle.constraint.specs.Check.{countsInRange}
+use Rattle.constraint.specs.declared.check.Counts.{Counts}
+use Rattle.constraint.specs.declared.check.Takes.the-variants as takes
+use Rattle.day_file.specs.Day.{rowCounts, countsKeep, lengthsFull}
+use Rattle.day_file.specs.File.{placesOf}
+use Rattle.day_file.specs.declared.counts.DayCounts.{DayCounts}
+use Rattle.day_file.specs.declared.counts.Places.{Places}
+
+module _ (counts : DayCounts) {b : Bool} {asked : Counts} (e : asked ≡ rowCounts counts) (t : b ≡ countsInRange asked takes.All) where
+  rows-test : countsInRange (rowCounts counts) takes.All ≡ b
+  rows-test = sym (ap (λ (c : Counts). countsInRange c takes.All) e) ∙ sym t
+
+  pub keep-rows : b ≡ false → false ≡ countsKeep counts
+  unfolding countsKeep
+  keep-rows h = rw (rows-test ∙ h)
+
+  pub keep-none : b ≡ true → counts .levels < 1 → false ≡ countsKeep counts
+  unfolding countsKeep
+  keep-none h l = rw (rows-test ∙ h, lt-leb _ _ l)
+
+  pub keep-most : b ≡ true → 1 ≤ counts .levels → leb (counts .levels) 64 ≡ countsKeep counts
+  unfolding countsKeep
+  keep-most h l = rw (rows-test ∙ h, le-leb _ _ l)
+
+-- counts in their ranges, and so at most 12,800 preferences
+pub record InRange (counts : DayCounts) : Type 0 where
+  pub choices : counts .choices ≤ 64
+  pub slots : counts .slots ≤ 24
+  pub choosers : counts .choosers ≤ 200
+  pub rows : counts .rows ≤ 128
+  pub some : 1 ≤ counts .levels
+  pub levels : counts .levels ≤ 64
+  pub cells : counts .choosers * counts .choices ≤ 12800
+
+pub in-range : (counts : DayCounts) → countsKeep counts ≡ true → InRange counts
+unfolding countsKeep countsInRange
+in-range counts h =
+    let c = leb (counts .choices) 64 in
+    let s = c && leb (counts .slots) 24 in
+    let t = s && leb (counts .choosers) 200 in
+    let u = t && leb (counts .rows) 128 in
+    let v = u && leb 1 (counts .levels) in
+    let hv = and-left v _ h in
+    let hu = and-left u _ hv in
+    let ht = and-left t _ hu in
+    let hs = and-left s _ ht in
+    let choices : counts .choices ≤ 64 = leb-true _ _ (and-left c _ hs) in
+    let choosers : counts .choosers ≤ 200 = leb-true _ _ (and-right s _ ht) in
+    record {
+      choices = choices;
+      slots = leb-true _ _ (and-right c _ hs);
+      choosers = choosers;
+      rows = leb-true _ _ (and-right t _ hu);
+      some = leb-true _ _ (and-right u _ hv);
+      levels = leb-true _ _ (and-right v _ h);
+      cells = le-trans (mul-le-mul-left (counts .choosers) choices) (mul-le-mul-right 64 choosers);
+    }
+
+-- the parts of a file of so many bytes, one after the other to its end
+pub record Within (counts : DayCounts) (places : Places) (size : ℕ) : Type 0 where
+  pub range : InRange counts
+  pub levels : places .levels ≡ 11 + 5 * counts .choices
+  pub preferences : places .preferences ≡ places .levels + 2 * counts .levels
+  pub rows : places .rows ≡ places .preferences + 2 * (counts .choosers * counts .choices)
+  pub end : places .rows + 6 * counts .rows ≡ size
+
+pub within : {counts : DayCounts} {places : Places} {size : ℕ} → countsKeep counts ≡ true → placesOf 5 counts .end ≡ size → places ≡ placesOf 5 counts
+    → Within counts places size
+within {counts} {places} {size} k e p =
+    let levels : places .levels ≡ placesOf 5 counts .levels = ap (λ (q : Places). q .levels) p in
+    let preferences : places .preferences ≡ placesOf 5 counts .preferences = ap (λ (q : Places). q .preferences) p in
+    let rows : places .rows ≡ placesOf 5 counts .rows = ap (λ (q : Places). q .rows) p in
+    record { range = in-range counts k; levels = levels; preferences = omega arith; rows = omega arith; end = omega arith }
+
+-- what each part asks of the file and, where it is filled from it, of its pool
+module _ {counts : DayCounts} {places : Places} {size : ℕ} (w : Within counts places size) where
+  pub mins-ask : {pool : ℕ} → pool ≡ 64 → (counts .choices ≤ pool) × ((k : ℕ) → k < counts .choices → 11 + 5 * k + 1 < size)
+  mins-ask e = (omega arith, λ k h. omega arith)
+
+  pub maxs-ask : {pool : ℕ} → pool ≡ 64 → (counts .choices ≤ pool) × ((k : ℕ) → k < counts .choices → 13 + 5 * k + 1 < size)
+  maxs-ask e = (omega arith, λ k h. omega arith)
+
+  pub optional-ask : {pool : ℕ} → pool ≡ 64 → (counts .choices ≤ pool) × (11 + 5 * counts .choices ≤ size)
+  optional-ask e = (omega arith, omega arith)
+
+  pub levels-ask : {pool : ℕ} → pool ≡ 64 → (counts .levels ≤ pool) × ((k : ℕ) → k < counts .levels → places .levels + 2 * k + 1 < size)
+  levels-ask e = (omega arith, λ k h. omega arith)
+
+  pub preferences-ask : {pool : ℕ} → pool ≡ 12800
+      → (counts .choosers * counts .choices ≤ pool) × ((k : ℕ) → k < counts .choosers * counts .choices → places .preferences + 2 * k + 1 < size)
+  preferences-ask e = (omega arith, λ k h. omega arith)
+
+  pub rows-ask : {pool : ℕ} → pool ≡ 128 → (counts .rows ≤ pool) × (places .rows + 6 * counts .rows ≤ size)
+  rows-ask e = (omega arith, omega arith)
+
+  pub levels-within : places .levels + 2 * counts .levels ≤ size
+  levels-within = omega arith
+
+  pub last-stands : 2 ≤ places .preferences
+  last-stands = omega arith
+
+  pub last-within : places .preferences - 2 + 1 < size
+  last-within = omega arith
+
+  pub last-place : places .preferences - 2 ≡ places .levels + 2 * (counts .levels - 1)
+  last-place = omega arith
+
+  pub preferences-within : places .preferences + 2 * (counts .choosers * counts .choices) ≤ size
+  preferences-within = omega arith
+
+-- the lengths of pools that are lent at their limits
+pub record Full (mins maxs optional levels preferences rows : ℕ) : Type 0 where
+  pub mins-full : mins ≡ 64
+  pub maxs-full : maxs ≡ 64
+  pub optional-full : optional ≡ 64
+  pub levels-full : levels ≡ 64
+  pub preferences-full : preferences ≡ 12800
+  pub rows-full : rows ≡ 128
+
+pub full : (mins maxs optional levels preferences rows : ℕ) → lengthsFull mins maxs optional levels preferences rows ≡ true
+    → Full mins maxs optional levels preferences rows
+unfolding lengthsFull
+full mins maxs optional levels preferences rows h =
+    let a = eqb mins 64 in
+    let b = a && eqb maxs 64 in
+    let c = b && eqb optional 64 in
+    let d = c && eqb levels 64 in
+    let e = d && eqb preferences 12800 in
+    let he = and-left e _ h in
+    let hd = and-left d _ he in
+    let hc = and-left c _ hd in
+    let hb = and-left b _ hc in
+    record {
+      mins-full = eqb-true _ _ (and-left a _ hb);
+      maxs-full = eqb-true _ _ (and-right a _ hb);
+      optional-full = eqb-true _ _ (and-right b _ hc);
+      levels-full = eqb-true _ _ (and-right c _ hd);
+      preferences-full = eqb-true _ _ (and-right d _ he);
+      rows-full = eqb-true _ _ (and-right e _ h);
+    }

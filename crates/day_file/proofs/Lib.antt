@@ -1,0 +1,3 @@
+pub mod CountLaws
+pub mod JudgeLaws
+pub mod ReadLaws

@@ -1,0 +1,60 @@
+-- What was put into the longer list is, from the front, the file's rows.
+use mathlib.Core.Path.{_≡_, sym, _∙_, ap}
+use mathlib.Core.List.{List}
+use Prim.Native.Nat.{ℕ}
+use native.Mathlib.Omega.{arith}
+use lib.ListN.{length}
+use Rattle.lists.proofs.Flat.{length-list}
+use Rattle.constraint.specs.Check.{rowsOf}
+use Rattle.constraint.specs.declared.check.Takes.the-variants as takes
+use Rattle.day_file.proofs.JudgeLaws.{rows-read}
+use borrow.Author.Needs.{needs}
+use Rattle.day_file.proofs.judge.rows_in.Statement.{statement}
+use Rattle.day_file.proofs.judge.rows_in.Tie as tie
+use Rattle.day_file.proofs.judge.rows_in.Reads as reads
+use Rattle.day_file.proofs.judge.rows_in.Lts as lts
+use Rattle.constraint.proofs.check.check_each_row.Reads as check-each-row-reads
+use Rattle.day_file.proofs.fill.fill_rows.Reads as fill-rows-reads
+use Rattle.day_file.proofs.judge.no_rows.Reads as no-rows-reads
+
+-- src/judge.rt:74:20
+no-rows-requires : tie.Need-no-rows-requires
+no-rows-requires c κs = search needs
+
+-- src/judge.rt:75:28
+slice-aggregate-fill-rows : tie.Need-slice-aggregate-fill-rows
+slice-aggregate-fill-rows c = search needs
+
+-- src/judge.rt:75:5
+fill-rows-requires : tie.Need-fill-rows-requires
+fill-rows-requires c κs = search needs
+
+-- src/judge.rt:76:59
+array-share-prefix-rows : tie.Need-array-share-prefix-rows
+array-share-prefix-rows c = search needs
+
+-- src/judge.rt:76:59
+slice-aggregate-check-each-row : tie.Need-slice-aggregate-check-each-row
+slice-aggregate-check-each-row c =
+    sym (ap length (rows-read _ _ _ (c .before .before .fill-rows .ensures)) ∙ length-list _ _)
+
+-- src/judge.rt:76:5
+check-each-row-requires : tie.Need-check-each-row-requires
+check-each-row-requires c κs = search needs
+
+-- src/judge.rt:70:1
+returns : tie.Need-returns
+returns c =
+    c .check-each-row .ensures ∙ ap (λ (l : List ℕ). rowsOf (c .before .before .before .before .before .before .before .args .counts) takes.All l) (rows-read _ _ _ (c .before .before .before .fill-rows .ensures))
+
+pub rows-in-spec : {M : Type 1} → statement M
+rows-in-spec =
+    tie.close
+    (tie.spec
+    no-rows-requires
+    slice-aggregate-fill-rows
+    fill-rows-requires
+    array-share-prefix-rows
+    slice-aggregate-check-each-row
+    check-each-row-requires
+    returns)

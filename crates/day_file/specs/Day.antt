@@ -1,0 +1,100 @@
+-- A day: its counts and its lists, and what 'Numbers a day may have' asks of them.
+use mathlib.Core.Bool.{Bool, true, false, _&&_}
+use mathlib.Core.List.{List}
+use Prim.Native.Nat.{ℕ, _+_, _*_, _-_}
+use lib.Dec.{eqb, ltb, leb}
+use lib.ListN.{length, getD}
+use Rattle.lists.specs.Below.{allBelow}
+use Rattle.lists.specs.Pool.{pad}
+use Rattle.constraint.specs.Check.{countsInRange, rowsOf}
+use Rattle.constraint.specs.declared.check.Counts.{Counts}
+use Rattle.constraint.specs.declared.check.Takes.the-variants as takes
+use Rattle.constraint.specs.declared.check.Checked.{Checked}
+use Rattle.constraint.specs.declared.check.Checked.the-variants as checked
+use Rattle.day_file.specs.declared.counts.DayCounts.{DayCounts}
+
+-- the lists of a day, preferences chooser by chooser; also the pools that a reader fills with them
+pub record Parts : Type 0 where
+  pub mins : List ℕ
+  pub maxs : List ℕ
+  pub optional : List ℕ
+  pub levels : List ℕ
+  pub preferences : List ℕ
+  pub rows : List ℕ
+
+abbrev pub parts : List ℕ → List ℕ → List ℕ → List ℕ → List ℕ → List ℕ → Parts
+parts mins maxs optional levels preferences rows =
+    record { mins = mins; maxs = maxs; optional = optional; levels = levels; preferences = preferences; rows = rows }
+
+-- a day
+pub record Day : Type 0 where
+  pub counts : DayCounts
+  pub lists : Parts
+
+abbrev pub day : DayCounts → Parts → Day
+day counts lists = record { counts = counts; lists = lists }
+
+-- the counts that the row check takes
+abbrev pub rowCounts : DayCounts → Counts
+rowCounts counts = record { choices = counts .choices; slots = counts .slots; choosers = counts .choosers; rows = counts .rows }
+
+-- 'Choices C 0..64, slots S 0..24, choosers H 0..200, levels L 1..64, given rows 0..128'
+unfoldable pub countsKeep : DayCounts → Bool
+countsKeep counts = countsInRange (rowCounts counts) takes.All && leb 1 (counts .levels) && leb (counts .levels) 64
+
+-- each list 'at the length its counts give'
+unfoldable pub lengthsKeep : DayCounts → Parts → Bool
+lengthsKeep counts lists =
+    eqb (length (lists .mins)) (counts .choices)
+    && eqb (length (lists .maxs)) (counts .choices)
+    && eqb (length (lists .optional)) (counts .choices)
+    && eqb (length (lists .levels)) (counts .levels)
+    && eqb (length (lists .preferences)) (counts .choosers * counts .choices)
+    && eqb (length (lists .rows)) (counts .rows)
+
+-- 'Levels rise strictly'
+unfoldable pub levelsRise : List ℕ → Bool
+levelsRise levels = allBelow (length levels - 1) (λ i. ltb (getD levels i 0) (getD levels (i + 1) 0))
+
+-- 'the last stands for max_preference'
+unfoldable pub lastLevel : List ℕ → ℕ
+lastLevel levels = getD levels (length levels - 1) 0
+
+-- every entry is at most the limit
+unfoldable pub allAtMost : ℕ → List ℕ → Bool
+allAtMost limit l = allBelow (length l) (λ i. leb (getD l i 0) limit)
+
+-- good, or 5 with the first row that breaks the one table, of which a day may have every kind
+unfoldable pub rowsJudged : Day → Checked
+rowsJudged d = rowsOf (rowCounts (d .counts)) takes.All (d .lists .rows)
+
+abbrev pub isGood : Checked → Bool
+isGood checked.Good = true
+isGood (checked.Refused why) = false
+
+-- a day is one whose numbers are those that a day may have
+unfoldable pub isDay : Day → Bool
+isDay d =
+    countsKeep (d .counts)
+    && lengthsKeep (d .counts) (d .lists)
+    && allAtMost 65535 (d .lists .mins)
+    && allAtMost 65535 (d .lists .maxs)
+    && allAtMost 1 (d .lists .optional)
+    && levelsRise (d .lists .levels)
+    && leb (lastLevel (d .lists .levels)) 65535
+    && allAtMost (lastLevel (d .lists .levels)) (d .lists .preferences)
+    && isGood (rowsJudged d)
+
+-- 'A pool is lent at its full limit'
+unfoldable pub lengthsFull : ℕ → ℕ → ℕ → ℕ → ℕ → ℕ → Bool
+lengthsFull mins maxs optional levels preferences rows =
+    eqb mins 64 && eqb maxs 64 && eqb optional 64 && eqb levels 64 && eqb preferences 12800 && eqb rows 128
+
+abbrev pub poolsFull : Parts → Bool
+poolsFull pools =
+    lengthsFull (length (pools .mins)) (length (pools .maxs)) (length (pools .optional)) (length (pools .levels)) (length (pools .preferences)) (length (pools .rows))
+
+-- 'Success zeroes a pool past its result'
+abbrev pub padded : Parts → Parts
+padded lists =
+    parts (pad 64 (lists .mins)) (pad 64 (lists .maxs)) (pad 64 (lists .optional)) (pad 64 (lists .levels)) (pad 12800 (lists .preferences)) (pad 128 (lists .rows))

@@ -1,0 +1,45 @@
+// Numbers of two bytes, big-endian, and rows of six.
+use constraint::row::Row;
+ghost use mathlib.Core.Path.{_≡_};
+ghost use Prim.Native.Nat.{_+_, _<_};
+ghost use lib.ListN.{length};
+ghost use Rattle.day_file.specs.File.{wordAt, turned, rowAt};
+
+// A byte as a number of two.
+fn wide(byte: u8) -> u16
+    ensures { λ r. ⌜ r ≡ byte ⌝ ∗ ⌜ r < 256 ⌝ }
+{
+    byte as u16
+}
+
+// The number that stands in the two bytes from a place on.
+pub(crate) fn word_at(file: &[u8], at: usize) -> u16
+    requires { ⌜ at + 1 < length (now file) ⌝ }
+    ensures { λ r. ⌜ r ≡ wordAt (now (file .entry)) at ⌝ }
+{
+    wide(file[at]) * 256 + wide(file[at + 1])
+}
+
+// An extra in two's complement, 32,768 higher as a row keeps it; and the same back.
+pub fn turn(v: u16) -> u16
+    ensures { λ r. ⌜ r ≡ turned v ⌝ }
+{
+    if v < 32768 {
+        return v + 32768;
+    }
+    v - 32768
+}
+
+// The number of the row that stands in the six bytes from a place on.
+pub(crate) fn row_at(file: &[u8], at: usize) -> u64
+    requires { ⌜ at + 5 < length (now file) ⌝ }
+    ensures { λ r. ⌜ r ≡ rowAt (now (file .entry)) at ⌝ }
+{
+    let row = Row {
+        kind: wide(file[at]),
+        left: wide(file[at + 1]),
+        right: word_at(file, at + 2),
+        extra: turn(word_at(file, at + 4)),
+    };
+    row.number()
+}
