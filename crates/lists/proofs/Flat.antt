@@ -13,7 +13,7 @@ use lib.ListN.{length, getD, take, drop, set, replicate, length-append, length-r
 use lib.Seq.{getD-at, getD-append-add, ext-getD, take-suc-set, take-all, take-length, take-at, drop-at, take-add, drop-drop, drop-append-add}
 use Rattle.lists.specs.Pool.{pad, window}
 use Rattle.lists.specs.Flat.{listBelow, joinBelow, orZero}
-use Rattle.lists.proofs.Pool.{length-pad}
+use Rattle.lists.proofs.Pad.{length-pad}
 
 module _ {ℓ} {A : Type ℓ} where
   -- the code's i + 1
