@@ -3,12 +3,14 @@ use mathlib.Core.Path.{_≡_, refl, ap, ap₂, fun-ext, _∙_}
 use mathlib.Core.Bool.{Bool, true, false, cond}
 use mathlib.Core.List.{List, [], _∷_, _++_, append-nil, append-assoc, map, flatten}
 use Prim.Native.Nat.{ℕ, zero, suc, _+_, _≤_, _<_}
-use native.Mathlib.Nat.{add-zero, add-assoc}
+use native.Mathlib.Nat.{add-zero, add-assoc, not-suc-le-zero, le-of-suc-le-suc}
 use native.Mathlib.Numerals.{add-one}
 use native.Mathlib.Omega.{arith}
 use borrow.Author.Tests.{eq-eqb, ne-eqb}
 use lib.Dec.{eqb, ltb}
-use lib.ListN.{length, length-append}
+use lib.ListN.{length, length-append, getD, take, length-map}
+use lib.Seq.{take-append-seam, drop-append-add}
+use Rattle.lists.specs.Pool.{window}
 use Rattle.lists.specs.Below.{one, countBelow}
 use Rattle.lists.specs.Group.{keepBelow, classOf, heads, classes, endsFrom}
 use Rattle.lists.proofs.CountBelow.{count-le, count-misses, count-split}
@@ -130,3 +132,29 @@ pub ends-snoc : (at : ℕ) (ls : List (List ℕ)) (l : List ℕ) → endsFrom at
 unfolding endsFrom flatten
 ends-snoc at [] l = rw add-zero
 ends-snoc at (k ∷ ls) l = rw (ends-snoc (at + length k) ls l, length-append, add-assoc at (length k) (length (flatten ls)))
+
+-- the end of each list
+pub ends-at : (at : ℕ) (ls : List (List ℕ)) (k : ℕ) → k < length ls → getD (endsFrom at ls) k 0 ≡ at + length (flatten (take (suc k) ls))
+unfolding endsFrom flatten
+ends-at at [] k h = absurd (not-suc-le-zero h)
+ends-at at (l ∷ ls) zero h = rw append-nil
+ends-at at (l ∷ ls) (suc k) h =
+    ends-at (at + length l) ls k (le-of-suc-le-suc h) ∙ rw (length-append, add-assoc at (length l))
+
+-- each list stands whole between the end of those before it and its own
+pub piece {ℓ} : {A : Type ℓ} (ls : List (List A)) (k : ℕ) → k < length ls → window (length (flatten (take k ls))) (length (getD ls k [])) (flatten ls) ≡ getD ls k []
+unfolding window flatten
+piece [] k h = absurd (not-suc-le-zero h)
+piece (l ∷ ls) zero h = take-append-seam l (flatten ls)
+piece (l ∷ ls) (suc k) h = rw (length-append, drop-append-add l (flatten ls)) (piece ls k (le-of-suc-le-suc h))
+
+-- ---- how much there is
+
+-- no more classes than numbers, and no more members
+pub classes-few : (n : ℕ) (f : ℕ → ℕ) → length (classes n f) ≤ n
+unfolding classes
+classes-few n f = rw length-map (heads-le n f)
+
+pub classes-fit : (n : ℕ) (f : ℕ → ℕ) → length (flatten (classes n f)) ≤ n
+unfolding classes
+classes-fit n f = omega (arith, flat-le n n f, count-le n (λ i. ltb (f i) n))

@@ -1,15 +1,15 @@
 -- A pool padded with zeros, written from the front.
-use mathlib.Core.Path.{_≡_, sym, ap, _∙_}
+use mathlib.Core.Path.{_≡_, refl, sym, ap, _∙_}
 use mathlib.Core.List.{List, [], _∷_, _++_, append-nil, append-assoc}
-use Prim.Native.Nat.{ℕ, suc, _+_, _-_, _≤_, _<_}
+use Prim.Native.Nat.{ℕ, zero, suc, _+_, _-_, _≤_, _<_}
 use native.Mathlib.Nat.{add-zero, add-suc, suc-add}
 use native.Mathlib.Numerals.{add-one}
 use native.Mathlib.Decide.{ℕ-discrete}
 use native.Mathlib.Omega.{arith}
 use lib.Arith.{lt-of-le-ne}
-use lib.ListN.{length, getD, take, set, replicate, length-append, length-replicate, replicate-append-replicate}
-use lib.Seq.{sets, getD-set-same, getD-set-other, set-append-seam, take-suc-set, take-all}
-use Rattle.lists.specs.Pool.{pad}
+use lib.ListN.{length, getD, take, set, replicate, length-append, length-replicate, replicate-append-replicate, drop, length-drop}
+use lib.Seq.{sets, getD-set-same, getD-set-other, set-append-seam, take-suc-set, take-all, take-append-le, drop-append-le}
+use Rattle.lists.specs.Pool.{pad, window}
 
 -- the empty result: all zero
 pub pad-nil : (n : ℕ) → pad n [] ≡ replicate n 0
@@ -58,3 +58,23 @@ fill-more l f i v h e below k b =
       | yes d ↦ rw d (getD-set-same l i v 0 h ∙ e)
       | no n ↦ getD-set-other l i k v 0 n ∙ below k (lt-of-le-ne (let m : k ≤ i = omega arith in m) n)
     ]
+
+-- what is read of a padded result is the result's, or zero
+pub pad-at : (n : ℕ) (l : List ℕ) (i : ℕ) → getD (pad n l) i 0 ≡ getD l i 0
+unfolding pad
+pad-at n l i = go l i (n - length l)
+  where
+    zeros : (k i : ℕ) → getD {A = ℕ} (replicate k 0) i 0 ≡ 0
+    zeros zero i = refl
+    zeros (suc k) zero = refl
+    zeros (suc k) (suc i) = zeros k i
+
+    go : (l : List ℕ) (i k : ℕ) → getD (l ++ replicate k 0) i 0 ≡ getD l i 0
+    go [] i k = zeros k i
+    go (x ∷ l) zero k = refl
+    go (x ∷ l) (suc i) k = go l i k
+
+pub pad-window : (n : ℕ) (l : List ℕ) (start size : ℕ) → start + size ≤ length l → window start size (pad n l) ≡ window start size l
+unfolding pad window
+pad-window n l start size h =
+    rw (drop-append-le start l (replicate (n - length l) 0) (omega arith)) (take-append-le size (drop start l) _ (rw length-drop (omega arith)))

@@ -29,6 +29,20 @@ find-made c m pairs element l = find-root c _ element (never-refused c m pairs) 
 pub groups-made : (c : ℕ) → c ≤ 64 → (pairs : List (ℕ × ℕ)) (members ends : List ℕ) → length members ≡ 64 → length ends ≡ 64 → groupsOf c (joinAll c pairs) members ends ≡ groupsWritten (classes c (rootOf (joinAll c pairs)))
 groups-made c m pairs members ends p q = groups-wrote c _ members ends (never-refused c m pairs) p q
 
+-- ---- joins one by one
+
+pub join-start : (c : ℕ) (pairs : List (ℕ × ℕ)) → joinAll c pairs ≡ joinFrom c fresh pairs
+unfolding joinAll
+join-start c pairs = refl
+
+pub join-next : (c : ℕ) (uf : UnionFind) (p : ℕ × ℕ) (pairs : List (ℕ × ℕ)) → joinFrom c uf (p ∷ pairs) ≡ joinFrom c (joinOf c uf (p .0) (p .1) .state) pairs
+unfolding joinFrom
+join-next c uf p pairs = refl
+
+pub join-end : (c : ℕ) (uf : UnionFind) → joinFrom c uf [] ≡ uf
+unfolding joinFrom
+join-end c uf = refl
+
 -- ---- one join of a record that is made
 
 module _ (c : ℕ) (uf : UnionFind) (m : Made c uf) (left right : ℕ) (l : left < c) (r : right < c) where

@@ -10,3 +10,4 @@ pub mod Made
 pub mod Partition
 pub mod Settled
 pub mod Joins
+pub mod Examples

@@ -1,14 +1,19 @@
 -- Each way out of `groups` is a law of `Grouping`.
-use mathlib.Core.Path.{sym, ap, _∙_}
+use mathlib.Core.Path.{_≡_, sym, ap, _∙_}
 use borrow.Author.Tests.{not-true, not-false}
+use lib.ListN.{length}
 use Rattle.union_find.specs.Groups.{groupsWritten}
 use Rattle.union_find.proofs.Grouping.{groups-untaken, groups-members, groups-ends, groups-wrote, roots-are, taken-climbs}
 use borrow.Author.Needs.{needs}
 use Rattle.union_find.proofs.UnionFind.groups.Statement.{statement}
 use Rattle.union_find.proofs.UnionFind.groups.Tie as tie
 
+-- the arrays of the record are 64 long
+wide : (c : tie.Start) → (length (c .args .t1 .parents) ≡ 64) × (length (c .args .t1 .heights) ≡ 64)
+wide c = (search needs, search needs)
+
 is-taken-requires : tie.Need-is-taken-requires
-is-taken-requires c κs = search needs
+is-taken-requires c κs = wide (c .before .before .before .before .before .before .before)
 
 returns : tie.Need-returns
 returns c = sym (groups-untaken _ _ _ _ (sym (c .before .is-taken .ensures) ∙ not-true _ (c .if1 .taken)))
@@ -20,13 +25,13 @@ returns-3 : tie.Need-returns-3
 returns-3 c = sym (groups-ends _ _ _ _ (sym (c .before .before .before .is-taken .ensures) ∙ not-false _ (c .before .before .if1 .left)) (c .if3 .taken))
 
 write-all-requires : tie.Need-write-all-requires
-write-all-requires c κs = (taken-climbs _ _ (search needs) (sym (c .before .before .before .before .before .before .before .before .is-taken .ensures) ∙ not-false _ (c .before .before .before .before .before .before .before .if1 .left)), c .before .before .before .before .before .before .if2 .left, c .before .before .before .before .before .if3 .left)
+write-all-requires c κs = (taken-climbs _ _ (wide (c .before .before .before .before .before .before .before .before .before .before .before .before .before .before .before .before) .0) (sym (c .before .before .before .before .before .before .before .before .is-taken .ensures) ∙ not-false _ (c .before .before .before .before .before .before .before .if1 .left)), c .before .before .before .before .before .before .if2 .left, c .before .before .before .before .before .if3 .left)
 
 same-length : tie.Need-same-length
-same-length c = search needs
+same-length c = c .before .before .before .before .write-all .kept .1 .1 .0
 
 same-length-2 : tie.Need-same-length-2
-same-length-2 c = search needs
+same-length-2 c = c .before .before .before .before .write-all .kept .1 .1 .1 .0
 
 returns-4 : tie.Need-returns-4
 returns-4 c =
