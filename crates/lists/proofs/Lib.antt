@@ -4,3 +4,4 @@ pub mod First
 pub mod Pool
 pub mod All
 pub mod Sums
+pub mod Differences

@@ -61,10 +61,12 @@ fn flags_fit(optional: &[u8]) -> bool
 fn check_cells(slots: usize, optional: &[u8], plan: &[u8]) -> Checked
     ensures { λ r. ⌜ r ≡ cellsOf slots (now (optional .entry)) (now (plan .entry)) ⌝ }
 {
-    if !cells_fit(slots, plan) {
+    let cells = cells_fit(slots, plan);
+    let flags = flags_fit(optional);
+    if !cells {
         return Checked::Refused(Refusal::PlanCell);
     }
-    if !flags_fit(optional) {
+    if !flags {
         return Checked::Refused(Refusal::Optional);
     }
     Checked::Good
