@@ -30,6 +30,7 @@ fn cell_fits(slots: usize, cell: u8) -> bool
     (cell as usize) < slots
 }
 
+// Whether every plan cell is a slot or 255.
 fn cells_fit(slots: usize, plan: &[u8]) -> bool
     ensures { λ r. ⌜ r ≡ allOf (cellFits slots) (now (plan .entry)) ⌝ }
 {
