@@ -2,6 +2,7 @@
 pub mod All
 pub mod Below
 pub mod CountBelow
+pub mod Differences
 pub mod First
 pub mod Flat
 pub mod Group

@@ -208,10 +208,21 @@ module _ (choosers : ℕ) (slotMin slotMax : List ℕ) (slot : ℕ) {low : ℕ} 
       all-more (λ s. leb (getD slotMin s 0) choosers && leb choosers (getD slotMax s 0)) slot a (rw (sym l, sym u, le-leb _ _ g, le-leb _ _ o))
 
 -- the lists' sums are the slots' sums
-pub listed-all : (slots choosers : ℕ) (mins maxs plan slotMin slotMax : List ℕ) → Sums mins plan slotMin → Sums maxs plan slotMax
+listed-all : (slots choosers : ℕ) (mins maxs plan slotMin slotMax : List ℕ) → Sums mins plan slotMin → Sums maxs plan slotMax
     → allBelow slots (listedFits choosers slotMin slotMax) ≡ allBelow slots (slotFits choosers mins maxs plan)
 unfolding listedFits slotFits Sums
 listed-all slots choosers mins maxs plan slotMin slotMax a b =
     all-ext slots (λ slot. leb (getD slotMin slot 0) choosers && leb choosers (getD slotMax slot 0))
     (λ slot. leb (sumIn mins plan slot) choosers && leb choosers (sumIn maxs plan slot))
     λ slot h. rw (a slot, b slot)
+
+-- what the pass over the choices says of the places, and the pass over the slots of the sums
+module _ {slots : ℕ} {mins maxs optional plan : List ℕ} {allowed : Bool} {slotMin slotMax sizes : List ℕ}
+    (added : Added slots mins maxs optional plan allowed slotMin slotMax sizes) where
+  pub places-say : {b : Bool} → allowed ≡ b → placesAllowed slots optional plan ≡ b
+  places-say e = sym (added .answer) ∙ e
+
+  pub slots-say : (choosers : ℕ) {said b : Bool} → allowed ≡ true → said ≡ allBelow slots (listedFits choosers slotMin slotMax) → said ≡ b
+      → allBelow slots (slotFits choosers mins maxs plan) ≡ b
+  slots-say choosers t s e =
+      sym (listed-all slots choosers mins maxs plan slotMin slotMax (added .min-sums t) (added .max-sums t)) ∙ sym s ∙ e

@@ -25,25 +25,28 @@ fn add_at(sums: &mut [u32; 24], slot: usize, amount: u32)
     sums[slot] += amount;
 }
 
+// A plan's byte as an index.
 fn wide(byte: u8) -> usize
     ensures { λ r. ⌜ r ≡ byte ⌝ }
 {
     byte as usize
 }
 
+// A minimum or maximum as wide as the sums.
 fn wide_amount(amount: u16) -> u32
     ensures { λ r. ⌜ (r ≡ amount) × (r < 2 ^ 16) ⌝ }
 {
     amount as u32
 }
 
+// A sum as wide as the number of choosers.
 fn wide_sum(sum: u32) -> usize
     ensures { λ r. ⌜ r ≡ sum ⌝ }
 {
     sum as usize
 }
 
-// 'Omitted needs optional': a byte that names no slot must be 255, and its choice optional.
+// 'Omitted needs optional': a byte that names no slot is 255, and its choice optional.
 fn omission_allowed(place: u8, optional: u8) -> bool
     ensures { λ r. ⌜ r ≡ omissionAllowed place optional ⌝ }
 {

@@ -30,6 +30,7 @@ fn cell_fits(slots: usize, cell: u8) -> bool
     (cell as usize) < slots
 }
 
+// Whether every plan cell is a slot or 255.
 fn cells_fit(slots: usize, plan: &[u8]) -> bool
     ensures { λ r. ⌜ r ≡ allOf (cellFits slots) (now (plan .entry)) ⌝ }
 {
@@ -61,10 +62,12 @@ fn flags_fit(optional: &[u8]) -> bool
 fn check_cells(slots: usize, optional: &[u8], plan: &[u8]) -> Checked
     ensures { λ r. ⌜ r ≡ cellsOf slots (now (optional .entry)) (now (plan .entry)) ⌝ }
 {
-    if !cells_fit(slots, plan) {
+    let cells = cells_fit(slots, plan);
+    let flags = flags_fit(optional);
+    if !cells {
         return Checked::Refused(Refusal::PlanCell);
     }
-    if !flags_fit(optional) {
+    if !flags {
         return Checked::Refused(Refusal::Optional);
     }
     Checked::Good
