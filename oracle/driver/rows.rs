@@ -111,7 +111,7 @@ fn row_of(number: u64) -> Constraint {
     Constraint::new(kind, usize::from(column(number, 32)), target, extra)
 }
 
-fn number_of(row: &Constraint) -> u64 {
+pub(crate) fn number_of(row: &Constraint) -> u64 {
     let right = match row.right {
         ConstraintTarget::Slot(value)
         | ConstraintTarget::Choice(value)

@@ -1,0 +1,108 @@
+//! The reduction: `reduce_and_optimize` against `reduce`.
+
+use std::hint::black_box;
+
+use crate::measure::{Side, measure};
+use crate::wire::Input;
+use crate::{Constraint, constraints, rows};
+
+const MOST_ROWS: usize = 1_024;
+
+unsafe extern "C" {
+    /// The number of rows and, 65,536 higher, the clash flag; or 2^32 more than a refusal's number.
+    fn thalluscrest_reduce(
+        choices: usize,
+        slots: usize,
+        choosers: usize,
+        rows: *const u64,
+        rows_length: usize,
+        pool: *mut u64,
+        pool_length: usize,
+    ) -> u64;
+}
+
+/// Given rows as each side holds them, and the pool that is lent.
+struct Case {
+    published: Vec<Constraint>,
+
+    choices: usize,
+    slots: usize,
+    choosers: usize,
+    rows: Vec<u64>,
+    pool: Vec<u64>,
+}
+
+impl Case {
+    fn of(record: &[u8]) -> Self {
+        let mut case = Input::new(record);
+        let choices = case.count8();
+        let slots = case.count8();
+        let choosers = case.count8();
+        let published = rows::read(&mut case);
+        Self {
+            rows: published.iter().map(rows::number_of).collect(),
+            published,
+            choices,
+            slots,
+            choosers,
+            pool: vec![0; MOST_ROWS],
+        }
+    }
+}
+
+/// What is left is the caller's to free, as the pool is the caller's to lend.
+#[inline(never)]
+#[unsafe(no_mangle)]
+fn rust_reduce(case: &Case) -> (Vec<Constraint>, bool) {
+    constraints::reduce_and_optimize(&case.published, case.choices)
+}
+
+#[inline(never)]
+#[unsafe(no_mangle)]
+fn rattle_reduce(case: &mut Case) -> u64 {
+    // Sound: each slice goes in as its pointer and its length, and the call has no `requires`.
+    unsafe {
+        thalluscrest_reduce(
+            case.choices,
+            case.slots,
+            case.choosers,
+            case.rows.as_ptr(),
+            case.rows.len(),
+            case.pool.as_mut_ptr(),
+            case.pool.len(),
+        )
+    }
+}
+
+fn rust_answer(case: &mut Case) -> Vec<u64> {
+    let (reduced, clash) = rust_reduce(case);
+    let mut answer = vec![u64::from(clash)];
+    answer.extend(reduced.iter().map(rows::number_of));
+    answer
+}
+
+fn rattle_answer(case: &mut Case) -> Vec<u64> {
+    let number = rattle_reduce(case);
+    let count = usize::try_from(number % 65_536).expect("a count is small");
+    let mut answer = vec![number / 65_536];
+    answer.extend(&case.pool[..count]);
+    answer
+}
+
+const SIDES: [Side<Case>; 2] = [
+    Side {
+        name: "rust_reduce",
+        run: |case| drop(black_box(rust_reduce(case))),
+        answer: rust_answer,
+    },
+    Side {
+        name: "rattle_reduce",
+        run: |case| _ = black_box(rattle_reduce(case)),
+        answer: rattle_answer,
+    },
+];
+
+pub(crate) fn run(records: &[Vec<u8>], rounds: usize) {
+    let mut cases = records.iter().map(|record| Case::of(record)).collect::<Vec<_>>();
+    measure(&SIDES, &mut cases, rounds);
+}

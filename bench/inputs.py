@@ -1,0 +1,134 @@
+"""The benchmark's inputs: days of a training corridor, rows that expand, a file at its limits.
+
+The records are as the oracle's README.md gives them, without answers.
+"""
+
+import struct
+import sys
+from pathlib import Path
+
+ORACLE = Path(__file__).resolve().parent.parent / "oracle"
+
+sys.path.insert(0, str(ORACLE))
+sys.dont_write_bytecode = True
+import scope  # noqa: E402
+from cases import plan_check, reduction  # noqa: E402
+from cases.common import Draws, parts, record, row, u16s  # noqa: E402
+
+SEED = 2_001
+PLANS = 200
+REDUCTIONS = 20
+
+
+# Plans: 10 to 20 stations, 3 to 6 blocks, 12 to 40 trainees, 20 rows.
+
+
+def training_day(draws, kinds):
+    """A day and a plan that keeps it, with 20 rows of the kinds."""
+    day = plan_check.random_day(
+        draws, draws.between(10, 20), draws.between(3, 6), draws.between(12, 40), 0
+    )
+    while len(day.rows) < 20:
+        fitting = plan_check.fitting_row(draws, day.plan, day.slots)
+        day.rows += [one for one in fitting if parts(one)[0] in kinds]
+    return day
+
+
+def passes(day):
+    return scope.is_feasible(
+        day.slots, day.choosers, day.rows, day.mins, day.maxs, day.optional, day.plan
+    )
+
+
+def feasible_plans(kinds):
+    draws = Draws(SEED)
+    return [training_day(draws, kinds).body() for _ in range(PLANS)]
+
+
+def infeasible_plans():
+    """Days whose plan was damaged at one place, so that it fails there."""
+    draws = Draws(SEED + 1)
+    bodies = []
+    while len(bodies) < PLANS:
+        day = training_day(draws, range(1, 7))
+        plan_check.damage(draws, day)
+        if not passes(day):
+            bodies.append(day.body())
+    return bodies
+
+
+# Reductions: 128 rows that expand to about 1,000.
+
+
+def one_group(draws):
+    """A group of 42 choices, and rows that add nothing."""
+    members = draws.shuffled(range(64))[:42]
+    return reduction.chain(members) + reduction.fillers(87)
+
+
+def chooser_lists(draws):
+    """Nine choosers with 14 choices each."""
+    choosers = draws.shuffled(range(200))[:9]
+    return [row(11, h, c) for h in choosers for c in draws.shuffled(range(64))[:14]] + reduction.fillers(2)
+
+
+def groups_and_choosers(draws):
+    """Groups of 4 to 16 choices, and rows of kinds 11, 12, 14 and 15 on few choosers."""
+    rows = []
+    left = draws.shuffled(range(64))
+    while len(left) > 16:
+        size = draws.between(4, 16)
+        rows += reduction.chain(left[:size])
+        left = left[size:]
+    while len(rows) < 128:
+        chooser, choice = draws.below(40), draws.below(64)
+        kind = draws.pick([11, 12, 14, 15])
+        rows.append(row(kind, chooser, choice) if kind < 14 else row(kind, choice, chooser))
+    return rows
+
+
+def reductions(make):
+    draws = Draws(SEED + 2)
+    bodies = []
+    while len(bodies) < REDUCTIONS:
+        rows = draws.shuffled(make(draws))
+        assert len(rows) == 128
+        before_equals_are_dropped = scope.reduced(64, rows)[2]
+        if 930 <= before_equals_are_dropped <= 1024:
+            bodies.append(reduction.body(64, 24, 200, rows))
+    return bodies
+
+
+# Day files: every count at its limit, 26,827 bytes.
+
+
+def full_file():
+    draws = Draws(SEED + 3)
+    counts = (64, 24, 200)
+    levels = [100 * level for level in range(64)]
+    body = struct.pack(">BBBBBH", 1, *counts, 64, 128)
+    for _ in range(64):
+        body += struct.pack(">HHB", draws.below(9), draws.between(9, 40), draws.below(2))
+    body += u16s(levels) + u16s([draws.pick(levels) for _ in range(200 * 64)])
+    rows = reduction.random_rows(draws, range(1, 16), 128, counts)
+    for kind, left, right, extra in map(parts, rows):
+        body += struct.pack(">BBHh", kind, left, right, extra)
+    file = struct.pack(">I", len(body)) + body
+    assert len(file) == 26_827
+    return file
+
+
+# Each set: the part that takes it, and what makes it.
+SETS = {
+    "plans that pass": ("plan_check", lambda: feasible_plans(range(1, 7))),
+    "plans that pass, no size limits": ("plan_check", lambda: feasible_plans(range(1, 6))),
+    "plans that fail": ("plan_check", infeasible_plans),
+    "rows, one group": ("reduction", lambda: reductions(one_group)),
+    "rows, lists of choosers": ("reduction", lambda: reductions(chooser_lists)),
+    "rows, groups and choosers": ("reduction", lambda: reductions(groups_and_choosers)),
+    "a file of 26,827 bytes": ("day_file", lambda: [full_file()]),
+}
+
+
+def write(name, path):
+    path.write_bytes(b"".join(map(record, SETS[name][1]())))
