@@ -1,3 +1,6 @@
 pub mod Below
 pub mod Pool
 pub mod First
+pub mod Sorted
+pub mod Keep
+pub mod Cut
