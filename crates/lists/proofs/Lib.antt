@@ -3,3 +3,7 @@ pub mod Below
 pub mod First
 pub mod Pool
 pub mod Sorted
+pub mod AllBelow
+pub mod CountBelow
+pub mod Pad
+pub mod Group

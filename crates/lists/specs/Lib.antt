@@ -4,3 +4,4 @@ pub mod First
 pub mod Sorted
 pub mod Keep
 pub mod Cut
+pub mod Group

@@ -1,0 +1,46 @@
+-- Groups: a law for each way through it.
+use mathlib.Core.Path.{_≡_, refl}
+use mathlib.Core.Bool.{true, false, cond, _&&_, and-false}
+use mathlib.Core.List.{List}
+use Prim.Native.Nat.{ℕ}
+use borrow.Author.Tests.{eq-eqb, ne-eqb}
+use lib.Dec.{eqb}
+use lib.ListN.{length}
+use Rattle.lists.specs.Group.{classes}
+use Rattle.union_find.specs.declared.UnionFind.{UnionFind}
+use Rattle.union_find.specs.Answers.{refused}
+use Rattle.union_find.specs.State.{taken, climb, rootOf}
+use Rattle.union_find.specs.Steps.{Climbs}
+use Rattle.union_find.specs.Groups.{groupsTell, groupsWritten, groupsOf}
+use Rattle.union_find.proofs.Entry.{sound-of}
+use Rattle.union_find.proofs.Root.{taken-ends}
+
+module _ (c : ℕ) (uf : UnionFind) (members ends : List ℕ) where
+  -- a record that isn't taken
+  pub groups-untaken : taken c uf ≡ false → groupsOf c uf members ends ≡ groupsTell (refused 1) members ends
+  unfolding groupsOf
+  groups-untaken t = simp t
+
+  -- a pool of members that isn't 64 long
+  pub groups-members : taken c uf ≡ true → (length members ≡ 64 → ⊥) → groupsOf c uf members ends ≡ groupsTell (refused 2) members ends
+  unfolding groupsOf
+  groups-members t n = simp (t, ne-eqb _ _ n)
+
+  -- a pool of ends that isn't 64 long
+  pub groups-ends : taken c uf ≡ true → (length ends ≡ 64 → ⊥) → groupsOf c uf members ends ≡ groupsTell (refused 2) members ends
+  unfolding groupsOf
+  groups-ends t n = simp (t, ne-eqb _ _ n, and-false)
+
+  -- otherwise the classes of equal root
+  pub groups-wrote : taken c uf ≡ true → length members ≡ 64 → length ends ≡ 64 → groupsOf c uf members ends ≡ groupsWritten (classes c (rootOf uf))
+  unfolding groupsOf
+  groups-wrote t m e = simp (t, eq-eqb _ _ m, eq-eqb _ _ e)
+
+-- the code's climb without a step climbed gives each root
+pub roots-are : (c : ℕ) (uf : UnionFind) → classes c (climb 64 (uf .parents)) ≡ classes c (rootOf uf)
+unfolding rootOf
+roots-are c uf = refl
+
+-- in a record that is taken every climb ends
+pub taken-climbs : (c : ℕ) (uf : UnionFind) → length (uf .parents) ≡ 64 → taken c uf ≡ true → Climbs (uf .parents) c
+taken-climbs c uf w t = record { wide = w; small = sound-of c uf t .small; ends = taken-ends c uf t }

@@ -1,0 +1,46 @@
+-- The join: a law for each way through it.
+use mathlib.Core.Path.{_≡_}
+use mathlib.Core.Bool.{true, false, cond, _&&_, and-false}
+use Prim.Native.Nat.{ℕ, _≤_, _<_}
+use borrow.Author.Tests.{lt-ltb, le-ltb, eq-eqb, ne-eqb}
+use lib.Dec.{eqb, ltb}
+use Rattle.union_find.specs.declared.UnionFind.{UnionFind}
+use Rattle.union_find.specs.Answers.{done}
+use Rattle.union_find.specs.State.{heightOf, taken, rootOf, joinedTells, refusedJoin, hung, linked, joinOf}
+
+module _ (uf : UnionFind) (a b : ℕ) where
+  -- one root
+  pub linked-same : a ≡ b → linked uf a b ≡ joinedTells (done b) uf
+  unfolding linked
+  linked-same e = simp (eq-eqb _ _ e)
+
+  -- the right root is the lower one
+  pub linked-left : (a ≡ b → ⊥) → heightOf uf b < heightOf uf a → linked uf a b ≡ joinedTells (done a) (hung uf b a)
+  unfolding linked
+  linked-left n h = simp (ne-eqb _ _ n, lt-ltb _ _ h)
+
+  -- the left root is the lower one, or as high
+  pub linked-right : (a ≡ b → ⊥) → heightOf uf a ≤ heightOf uf b → linked uf a b ≡ joinedTells (done b) (hung uf a b)
+  unfolding linked
+  linked-right n h = simp (ne-eqb _ _ n, le-ltb _ _ h)
+
+module _ (c : ℕ) (uf : UnionFind) (left right : ℕ) where
+  -- a record that isn't taken
+  pub join-untaken : taken c uf ≡ false → joinOf c uf left right ≡ refusedJoin uf
+  unfolding joinOf
+  join-untaken t = simp t
+
+  -- a left element that isn't under C
+  pub join-left-out : c ≤ left → joinOf c uf left right ≡ refusedJoin uf
+  unfolding joinOf
+  join-left-out h = simp (le-ltb _ _ h, and-false)
+
+  -- a right element that isn't under C
+  pub join-right-out : c ≤ right → joinOf c uf left right ≡ refusedJoin uf
+  unfolding joinOf
+  join-right-out h = simp (le-ltb _ _ h, and-false)
+
+  -- otherwise the roots are linked
+  pub join-links : taken c uf ≡ true → left < c → right < c → joinOf c uf left right ≡ linked uf (rootOf uf left) (rootOf uf right)
+  unfolding joinOf
+  join-links t l r = simp (t, lt-ltb _ _ l, lt-ltb _ _ r)
