@@ -7,3 +7,6 @@ pub mod AllBelow
 pub mod CountBelow
 pub mod Pad
 pub mod Group
+pub mod Stores
+pub mod Cut
+pub mod Keep
