@@ -11,7 +11,7 @@ use lib.ListN.{length, take, drop, replicate, length-append, length-drop, length
 use lib.Seq.{sets, length-sets, take-at, drop-length, length-take-le}
 use Rattle.lists.specs.Pool.{pad}
 use Rattle.lists.specs.Sorted.{uniqueSorted}
-use Rattle.lists.proofs.Pool.{length-pad}
+use Rattle.lists.proofs.Pad.{length-pad}
 use Rattle.lists.proofs.Sorted.{length-unique}
 use Rattle.lists.proofs.Stores.{take-sets}
 use Rattle.constraint.specs.Check.{countsInRange, rowsOf}

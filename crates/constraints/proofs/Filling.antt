@@ -17,7 +17,7 @@ use Rattle.lists.proofs.Stores.{sets-append, sets-part, take-sets}
 use Rattle.lists.proofs.Cut.{cut-ends, ends-fit}
 use Rattle.lists.proofs.CountBelow.{count-le}
 use Rattle.lists.proofs.Group.{flat-le, heads-le, length-ends}
-use Rattle.lists.proofs.Pool.{length-pad}
+use Rattle.lists.proofs.Pad.{length-pad}
 use Rattle.union_find.specs.Answers.{done, Outcome}
 use Rattle.union_find.specs.State.{joinAll, rootOf}
 use Rattle.union_find.specs.Groups.{groupsTell, groupsWritten, GroupsTell}

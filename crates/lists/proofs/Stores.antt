@@ -1,20 +1,18 @@
-<<<<<<< HEAD
--- Laws of runs of stores into a pool.
+-- Runs of stores: a loop that writes the rest of a list from a place on, one part after another.
 use mathlib.Core.Path.{_≡_, refl, sym, _∙_, ap}
-use mathlib.Core.List.{List, [], _∷_, _++_}
-use Prim.Native.Nat.{ℕ, zero, suc, _+_, _-_, _≤_}
-use native.Mathlib.Nat.{add-zero, zero-add, add-suc, suc-add}
+use mathlib.Core.List.{List, [], _∷_, _++_, flatMap, append-assoc}
+use Prim.Native.Nat.{ℕ, zero, suc, _+_, _-_, _≤_, _<_}
+use native.Mathlib.Nat.{suc-add, add-suc, add-zero, zero-add}
+use native.Mathlib.Numerals.{add-one}
 use native.Mathlib.Omega.{arith}
-use lib.ListN.{length, drop, set, replicate, length-replicate}
-use lib.Seq.{sets, sets-eq}
+use lib.ListN.{length, getD, take, drop, set, replicate, length-replicate, length-append, length-drop, drop-of-length-le}
+use lib.Seq.{sets, length-sets, sets-eq, drop-cons, take-set-le, drop-set-add, take-at}
 use Rattle.lists.specs.Pool.{pad}
 
--- one run after the other is one run
-pub sets-append {ℓ} : {A : Type ℓ} (l : List A) (i : ℕ) (vs ws : List A) → sets l i (vs ++ ws) ≡ sets (sets l i vs) (i + length vs) ws
-sets-append l i [] ws = rw add-zero
-sets-append l i (a ∷ vs) ws =
-    sets-append (set l i a) (suc i) vs ws
-    ∙ ap (λ (k : ℕ). sets (sets (set l i a) (suc i) vs) k ws) (suc-add i (length vs) ∙ sym (add-suc i (length vs)))
+-- a run of stores is one run after another
+pub sets-append {ℓ} : {A : Type ℓ} (l : List A) (i : ℕ) (p q : List A) → sets l i (p ++ q) ≡ sets (sets l i p) (i + length p) q
+sets-append l i [] q = rw add-zero
+sets-append l i (x ∷ p) q = rw (add-suc i (length p), sym (suc-add i (length p))) (sets-append (set l i x) (suc i) p q)
 
 pub drop-replicate {ℓ} : {A : Type ℓ} (k m : ℕ) (a : A) → drop k (replicate m a) ≡ replicate (m - k) a
 drop-replicate zero m a = let e : m - 0 ≡ m = omega arith in rw e
@@ -26,21 +24,6 @@ pub sets-zeros : (m : ℕ) (l : List ℕ) → length l ≤ m → sets (replicate
 unfolding pad
 sets-zeros m l h =
     sets-eq l (replicate m 0) 0 (rw (zero-add, length-replicate) h) ∙ rw (zero-add, drop-replicate {A = ℕ} (length l) m 0)
-=======
--- Runs of stores: a loop that writes the rest of a list from a place on, one part after another.
-use mathlib.Core.Path.{_≡_, refl, sym, _∙_, ap}
-use mathlib.Core.List.{List, [], _∷_, _++_, flatMap, append-assoc}
-use Prim.Native.Nat.{ℕ, zero, suc, _+_, _≤_, _<_}
-use native.Mathlib.Nat.{suc-add, add-suc, add-zero}
-use native.Mathlib.Numerals.{add-one}
-use native.Mathlib.Omega.{arith}
-use lib.ListN.{length, getD, take, drop, set, length-append, length-drop, drop-of-length-le}
-use lib.Seq.{sets, length-sets, sets-eq, drop-cons, take-set-le, drop-set-add, take-at}
-
--- a run of stores is one run after another
-pub sets-append {ℓ} : {A : Type ℓ} (l : List A) (i : ℕ) (p q : List A) → sets l i (p ++ q) ≡ sets (sets l i p) (i + length p) q
-sets-append l i [] q = rw add-zero
-sets-append l i (x ∷ p) q = rw (add-suc i (length p), sym (suc-add i (length p))) (sets-append (set l i x) (suc i) p q)
 
 -- a run of stores into the part from n on is one into the whole
 pub sets-part {ℓ} : {A : Type ℓ} (l : List A) (n i : ℕ) (p : List A) → n ≤ length l → take n l ++ sets (drop n l) i p ≡ sets l (n + i) p
@@ -117,4 +100,3 @@ module _ {ℓ} {A : Type ℓ} (f : A → List ℕ) (xs : List A) where
     -- the part's count stays under what the whole's is
     pub each-count : (d : A) (most : ℕ) → i < length xs → Each free₀ at₀ free at i → at₀ + length (flatMap f xs) < most → at + length (f (getD xs i d)) < most
     each-count d most h s m = omega (arith, each-room i d h, s .1 .counted)
->>>>>>> wt-red
