@@ -1,10 +1,10 @@
 -- The call, a law for each of its answers.
 use mathlib.Core.Path.{_≡_, refl, sym, _∙_, ap}
-use mathlib.Core.Bool.{Bool, true, false, _&&_, cond, false≢true}
+use mathlib.Core.Bool.{Bool, true, false, _&&_, cond}
 use mathlib.Core.List.{List, [], _++_, append-nil, append-assoc}
 use Prim.Native.Nat.{ℕ, _+_, _-_, _≤_, _<_}
 use native.Mathlib.Omega.{arith}
-use borrow.Author.Tests.{leb-true, le-leb, lt-leb, eq-eqb, ne-eqb}
+use borrow.Author.Tests.{le-leb, lt-leb, eq-eqb, ne-eqb}
 use borrow.Rule.Slice.PartMut.{putMid, midOf, mid-len, post-is}
 use lib.Dec.{eqb, leb}
 use lib.ListN.{length, take, drop, replicate, length-append, length-drop, length-replicate, replicate-append-replicate}
@@ -21,23 +21,17 @@ use Rattle.constraint.specs.declared.check.Takes.the-variants as takes
 use Rattle.constraint.specs.declared.check.Checked.{Checked}
 use Rattle.constraint.specs.declared.check.Checked.the-variants as checked
 use Rattle.constraint.specs.declared.refusal.Refusal.{Refusal}
+use Rattle.constraint.proofs.CountLaws.{within}
 use Rattle.constraints.specs.Turn.{clashOf}
 use Rattle.constraints.specs.Expand.{Filled, Given}
 use Rattle.constraints.specs.Reduction.{expanded, reducedRows, done, refused, left, Left, reductionOf, afterCheck, reduceOf}
 
 -- counts in their ranges, and the lengths that go with them
 pub given-of : (counts : Counts) (rows pool : ℕ) → countsInRange counts takes.All ≡ true → rows ≡ counts .rows → pool ≡ 1024 → Given counts rows pool
-unfolding countsInRange
-given-of counts rows pool h r p = go (leb (counts .choices) 64) (leb (counts .slots) 24) (leb (counts .choosers) 200) (leb (counts .rows) 128) refl refl refl h
-  where
-    go : (a b c d : Bool) → leb (counts .choices) 64 ≡ a → leb (counts .choosers) 200 ≡ c → leb (counts .rows) 128 ≡ d → (a && b && c && d) ≡ true → Given counts rows pool
-    go true true true true e f g t =
-        let k : counts .rows ≤ 128 = leb-true (counts .rows) 128 g in
-        record { choices-in = leb-true (counts .choices) 64 e; choosers-in = leb-true (counts .choosers) 200 f; rows-in = omega arith; pool-is = p }
-    go true true true false e f g t = absurd (false≢true t)
-    go true true false d e f g t = absurd (false≢true t)
-    go true false c d e f g t = absurd (false≢true t)
-    go false b c d e f g t = absurd (false≢true t)
+given-of counts rows pool h r p =
+    let w = within counts takes.All h in
+    let k : counts .rows ≤ 128 = w .rows in
+    record { choices-in = w .choices; choosers-in = w .choosers; rows-in = omega arith; pool-is = p }
 
 -- over 1,024 rows: 6, the pool all zero
 module _ (counts : Counts) (rows pool : List ℕ) (total : ℕ) (pool′ : List ℕ) (f : Filled pool (expanded counts rows) total pool′) where

@@ -7,3 +7,5 @@ pub mod Filling
 pub mod Calling
 pub mod Result
 pub mod Examples
+pub mod TableKept
+pub mod Lists

@@ -16,3 +16,4 @@ pub mod Sorted
 pub mod Stores
 pub mod Sums
 pub mod Through
+pub mod Members
