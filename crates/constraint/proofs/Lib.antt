@@ -5,5 +5,6 @@ pub mod KeptLaws
 pub mod KindLaws
 pub mod Numbers
 pub mod Outcomes
+pub mod RowBytes
 pub mod RowLaws
 pub mod SignedLaws

@@ -10,6 +10,7 @@ use Rattle.lists.proofs.Below.{and-left, and-right}
 use Rattle.constraint.specs.Check.{countsInRange}
 use Rattle.constraint.specs.declared.check.Counts.{Counts}
 use Rattle.constraint.specs.declared.check.Takes.the-variants as takes
+use Rattle.constraint.proofs.CountLaws as limits
 use Rattle.day_file.specs.Day.{rowCounts, countsKeep, lengthsFull}
 use Rattle.day_file.specs.File.{placesOf}
 use Rattle.day_file.specs.declared.counts.DayCounts.{DayCounts}
@@ -42,27 +43,20 @@ pub record InRange (counts : DayCounts) : Type 0 where
   pub cells : counts .choosers * counts .choices ≤ 12800
 
 pub in-range : (counts : DayCounts) → countsKeep counts ≡ true → InRange counts
-unfolding countsKeep countsInRange
+unfolding countsKeep
 in-range counts h =
-    let c = leb (counts .choices) 64 in
-    let s = c && leb (counts .slots) 24 in
-    let t = s && leb (counts .choosers) 200 in
-    let u = t && leb (counts .rows) 128 in
-    let v = u && leb 1 (counts .levels) in
-    let hv = and-left v _ h in
-    let hu = and-left u _ hv in
-    let ht = and-left t _ hu in
-    let hs = and-left s _ ht in
-    let choices : counts .choices ≤ 64 = leb-true _ _ (and-left c _ hs) in
-    let choosers : counts .choosers ≤ 200 = leb-true _ _ (and-right s _ ht) in
+    let rows = countsInRange (rowCounts counts) takes.All in
+    let some = rows && leb 1 (counts .levels) in
+    let hs = and-left some _ h in
+    let r = limits.within (rowCounts counts) takes.All (and-left rows _ hs) in
     record {
-      choices = choices;
-      slots = leb-true _ _ (and-right c _ hs);
-      choosers = choosers;
-      rows = leb-true _ _ (and-right t _ hu);
-      some = leb-true _ _ (and-right u _ hv);
-      levels = leb-true _ _ (and-right v _ h);
-      cells = le-trans (mul-le-mul-left (counts .choosers) choices) (mul-le-mul-right 64 choosers);
+      choices = r .choices;
+      slots = r .slots;
+      choosers = r .choosers;
+      rows = r .rows;
+      some = leb-true _ _ (and-right rows _ hs);
+      levels = leb-true _ _ (and-right some _ h);
+      cells = le-trans (mul-le-mul-left (counts .choosers) (r .choices)) (mul-le-mul-right 64 (r .choosers));
     }
 
 -- the parts of a file of so many bytes, one after the other to its end

@@ -1,0 +1,78 @@
+-- The loop's invariant: every entry before i is at most the limit.
+use mathlib.Core.Path.{_≡_, sym}
+use mathlib.Core.Bool.{true}
+use Prim.Native.Nat.{_+_, _-_, _≤_}
+use native.Mathlib.Omega.{arith}
+use lib.Dec.{leb, ltb}
+use lib.ListN.{length, getD}
+use borrow.Author.Tests.{lt-ltb, le-ltb, le-leb, lt-leb}
+use Rattle.lists.specs.Below.{allBelow}
+use Rattle.lists.proofs.Below.{all-more, one-fails}
+use Rattle.lists.proofs.Through.{all-none, all-done}
+use Rattle.day_file.specs.Day.{allAtMost}
+use borrow.Author.Needs.{needs}
+use Rattle.day_writer.proofs.judge.preferences_keep.Statement.{statement}
+use Rattle.day_writer.proofs.judge.preferences_keep.Tie as tie
+use Rattle.day_writer.proofs.judge.preferences_keep.Reads as reads
+use Rattle.day_writer.proofs.judge.preferences_keep.Lts as lts
+
+abbrev Inv-loop : tie.InvT-loop
+Inv-loop last preferences i₀ i =
+    (i ≤ length preferences) × (allBelow i (λ k. leb (getD preferences k 0) last) ≡ true)
+
+abbrev μ-loop : tie.MeasureT-loop
+μ-loop last preferences i₀ i =
+    length preferences - i
+
+-- src/judge.rt:24:5
+loop-holds : tie.Need-loop-holds Inv-loop μ-loop
+loop-holds c =
+    (search needs, all-none _)
+
+-- src/judge.rt:25:19
+mul-if1 : tie.Need-mul-if1 Inv-loop μ-loop
+mul-if1 c = search needs
+
+-- src/judge.rt:25:19
+shared-slice-read-if1 : tie.Need-shared-slice-read-if1 Inv-loop μ-loop
+shared-slice-read-if1 c = search needs
+
+-- src/judge.rt:26:13
+returns : tie.Need-returns Inv-loop μ-loop
+unfolding allAtMost
+returns c =
+    sym (one-fails _ _ _ (c .before .before .loop-test .taken) (lt-leb _ _ (c .if1 .taken)))
+
+-- src/judge.rt:28:9
+add-i : tie.Need-add-i Inv-loop μ-loop
+add-i c = search needs
+
+-- src/judge.rt:24:5
+loop-less : tie.Need-loop-less Inv-loop μ-loop
+loop-less c = search needs
+
+-- src/judge.rt:24:5
+loop-again : tie.Need-loop-again Inv-loop μ-loop
+loop-again c =
+    (omega arith, all-more _ _ (c .before .before .before .loop .inv .1) (le-leb _ _ (c .if1 .left)))
+
+-- src/judge.rt:20:1
+returns-2 : tie.Need-returns-2 Inv-loop μ-loop
+unfolding allAtMost
+returns-2 c =
+    all-done _ _ _ (c .before .loop .inv .0) (c .loop-test .left) (c .before .loop .inv .1)
+
+pub preferences-keep-spec : {M : Type 1} → statement M
+preferences-keep-spec =
+    tie.close
+    (tie.spec
+    Inv-loop
+    μ-loop
+    loop-holds
+    mul-if1
+    shared-slice-read-if1
+    returns
+    add-i
+    loop-less
+    loop-again
+    returns-2)
