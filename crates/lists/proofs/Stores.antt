@@ -1,20 +1,14 @@
 -- Runs of stores: a loop that writes the rest of a list from a place on, one part after another.
 use mathlib.Core.Path.{_≡_, refl, sym, _∙_, ap}
-<<<<<<< HEAD
 use mathlib.Core.List.{List, [], _∷_, _++_, flatMap, append-assoc}
-use Prim.Native.Nat.{ℕ, zero, suc, _+_, _-_, _≤_, _<_}
+use Prim.Native.Nat.{ℕ, zero, suc, _+_, _*_, _-_, _≤_, _<_}
 use native.Mathlib.Nat.{suc-add, add-suc, add-zero, zero-add}
 use native.Mathlib.Numerals.{add-one}
-=======
-use mathlib.Core.List.{List, [], _∷_, _++_}
-use Prim.Native.Nat.{ℕ, zero, suc, _+_, _*_, _-_, _≤_}
-use native.Mathlib.Nat.{add-zero, zero-add, add-suc, suc-add}
->>>>>>> wt-day
 use native.Mathlib.Omega.{arith}
 use lib.ListN.{length, getD, take, drop, set, replicate, length-replicate, length-append, length-drop, drop-of-length-le}
 use lib.Seq.{sets, length-sets, sets-eq, drop-cons, take-set-le, drop-set-add, take-at}
-use Rattle.lists.specs.Pool.{pad}
 use Rattle.lists.specs.Flat.{joinBelow}
+use Rattle.lists.specs.Pool.{pad}
 use Rattle.lists.proofs.Flat.{join-more, length-join}
 
 -- a run of stores is one run after another
@@ -33,7 +27,6 @@ unfolding pad
 sets-zeros m l h =
     sets-eq l (replicate m 0) 0 (rw (zero-add, length-replicate) h) ∙ rw (zero-add, drop-replicate {A = ℕ} (length l) m 0)
 
-<<<<<<< HEAD
 -- a run of stores into the part from n on is one into the whole
 pub sets-part {ℓ} : {A : Type ℓ} (l : List A) (n i : ℕ) (p : List A) → n ≤ length l → take n l ++ sets (drop n l) i p ≡ sets l (n + i) p
 sets-part l n i [] h = lib.ListN.take-append-drop n l
@@ -109,7 +102,7 @@ module _ {ℓ} {A : Type ℓ} (f : A → List ℕ) (xs : List A) where
     -- the part's count stays under what the whole's is
     pub each-count : (d : A) (most : ℕ) → i < length xs → Each free₀ at₀ free at i → at₀ + length (flatMap f xs) < most → at + length (f (getD xs i d)) < most
     each-count d most h s m = omega (arith, each-room i d h, s .1 .counted)
-=======
+
 -- a turn of a loop that stores one record of w entries after the other
 pub sets-join {ℓ} : {A : Type ℓ} (w : ℕ) (f : ℕ → List A) → ((k : ℕ) → length (f k) ≡ w) → (l : List A) {m n : List A} (at i : ℕ)
     → m ≡ sets l at (joinBelow i f) → n ≡ sets m (at + w * i) (f i) → n ≡ sets l at (joinBelow (i + 1) f)
@@ -126,4 +119,3 @@ sets-done f l {m} at n i a b p = let e : i ≡ n = omega arith in rw e at p
 pub sets-start {ℓ} : {A : Type ℓ} (f : ℕ → List A) (l : List A) (at : ℕ) → l ≡ sets l at (joinBelow 0 f)
 unfolding joinBelow
 sets-start f l at = refl
->>>>>>> wt-day
