@@ -6,6 +6,5 @@ pub mod Bounds
 pub mod Filling
 pub mod Calling
 pub mod Result
-pub mod Examples
 pub mod TableKept
 pub mod Lists

@@ -6,4 +6,3 @@ pub mod CheckLaws
 pub mod Meaning
 pub mod Joined
 pub mod Settled
-pub mod Examples
