@@ -99,12 +99,6 @@ module _ {counts : DayCounts} {places : Places} {size : ℕ} (w : Within counts 
   pub levels-within : places .levels + 2 * counts .levels ≤ size
   levels-within = omega arith
 
-  pub last-stands : 2 ≤ places .preferences
-  last-stands = omega arith
-
-  pub last-within : places .preferences - 2 + 1 < size
-  last-within = omega arith
-
   pub last-place : places .preferences - 2 ≡ places .levels + 2 * (counts .levels - 1)
   last-place = omega arith
 

@@ -11,14 +11,12 @@ use Rattle.lists.specs.Below.{allBelow}
 use Rattle.lists.specs.Flat.{listBelow}
 use Rattle.lists.proofs.Below.{and-left, and-right, each-all}
 use Rattle.lists.proofs.Flat.{length-list}
-use Rattle.lists.proofs.Outcome.{no-two}
 use Rattle.constraint.specs.declared.check.Checked.{Checked}
 use Rattle.constraint.specs.declared.check.Checked.the-variants.{Good, Refused}
 use Rattle.day_file.specs.Day.{Parts, Day, day, countsKeep, lengthsKeep, levelsRise, lastLevel, allAtMost, rowsJudged, isGood, isDay, poolsFull, padded}
 use Rattle.day_file.specs.File.{wordAt, placesOf, countsIn, listsIn, dayIn, bytesOf}
-use Rattle.day_file.specs.Calls.{andThen, headJudged, bodyJudged, fileJudged, Reading, reading, readOf}
+use Rattle.day_file.specs.Calls.{andThen, headJudged, bodyJudged, fileJudged, reading, readOf}
 use Rattle.day_file.specs.declared.counts.DayCounts.{DayCounts}
-use Rattle.day_file.specs.declared.read.Read.{Read}
 use Rattle.day_file.specs.declared.read.Read.the-variants as read
 use Rattle.day_file.proofs.CountLaws.{InRange, in-range}
 use Rattle.day_file.proofs.JudgeLaws.{at-most-list, last-list}
@@ -193,9 +191,3 @@ module _ (file : List ℕ) (bytes : Bytes file) (g : fileJudged file ≡ Good) w
   -- and writes back as the same bytes
   pub file-back : bytesOf (dayIn file) ≡ file
   file-back = bytes-back file bytes head
-
--- no two outcomes fit the reader's promise
-pub one-reading : (file : List ℕ) (before : Parts) {r s : Read} {p q : Parts} → reading r p ≡ readOf file before → reading s q ≡ readOf file before → (r ≡ s) × (p ≡ q)
-one-reading file before a b =
-    let z = no-two a b in
-    (ap (λ (g : Reading). g .answer) z, ap (λ (g : Reading). g .pools) z)

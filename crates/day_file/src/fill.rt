@@ -14,7 +14,7 @@ fn word_or_zero(file: &[u8], at: usize, step: usize, n: usize, i: usize) -> u16
     ensures { λ r. ⌜ r ≡ orZero n (λ k. wordAt (now (file .entry)) (at + step * k)) i ⌝ }
 {
     if n <= i {
-        return 0;
+        return 0u16;
     }
     word_at(file, at + step * i)
 }
@@ -37,7 +37,7 @@ fn optional_or_zero(file: &[u8], n: usize, i: usize) -> u8
     ensures { λ r. ⌜ r ≡ orZero n (λ k. getD (now (file .entry)) (15 + 5 * k) 0) i ⌝ }
 {
     if n <= i {
-        return 0;
+        return 0u8;
     }
     file[15 + 5 * i]
 }
@@ -60,7 +60,7 @@ fn row_or_zero(file: &[u8], at: usize, n: usize, i: usize) -> u64
     ensures { λ r. ⌜ r ≡ orZero n (λ k. rowAt (now (file .entry)) (at + 6 * k)) i ⌝ }
 {
     if n <= i {
-        return 0;
+        return 0u64;
     }
     row_at(file, at + 6 * i)
 }

@@ -17,7 +17,9 @@ pub(crate) fn word_at(file: &[u8], at: usize) -> u16
     requires { ⌜ at + 1 < length (now file) ⌝ }
     ensures { λ r. ⌜ r ≡ wordAt (now (file .entry)) at ⌝ }
 {
-    wide(file[at]) * 256 + wide(file[at + 1])
+    let high = wide(file[at]);
+    let low = wide(file[at + 1]);
+    high * 256 + low
 }
 
 // An extra in two's complement, 32,768 higher as a row keeps it; and the same back.

@@ -1,2 +1,3 @@
+-- The laws of the writer, and of writing and reading.
 pub mod RoundTrip
 pub mod WriteLaws

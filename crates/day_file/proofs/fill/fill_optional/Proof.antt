@@ -8,9 +8,6 @@ use Rattle.lists.proofs.Flat.{fill-start, fill-next, fill-done}
 use borrow.Author.Needs.{needs}
 use Rattle.day_file.proofs.fill.fill_optional.Statement.{statement}
 use Rattle.day_file.proofs.fill.fill_optional.Tie as tie
-use Rattle.day_file.proofs.fill.fill_optional.Reads as reads
-use Rattle.day_file.proofs.fill.fill_optional.Lts as lts
-use Rattle.day_file.proofs.fill.optional_or_zero.Reads as optional-or-zero-reads
 
 abbrev Inv-loop : tie.InvT-loop
 Inv-loop file n pool₀ i₀ pool i =
@@ -20,37 +17,29 @@ abbrev μ-loop : tie.MeasureT-loop
 μ-loop file n pool₀ i₀ pool i =
     length pool₀ - i
 
--- src/fill.rt:51:5
 loop-holds : tie.Need-loop-holds Inv-loop μ-loop
 loop-holds c =
     (search needs, refl, fill-start _)
 
--- src/fill.rt:52:19
 optional-or-zero-requires : tie.Need-optional-or-zero-requires Inv-loop μ-loop
 optional-or-zero-requires c κs = search needs
 
--- src/fill.rt:52:9
 slice-write-pool : tie.Need-slice-write-pool Inv-loop μ-loop
 slice-write-pool c = search needs
 
--- src/fill.rt:53:9
 add-i : tie.Need-add-i Inv-loop μ-loop
 add-i c = search needs
 
--- src/fill.rt:51:5
 loop-less : tie.Need-loop-less Inv-loop μ-loop
 loop-less c = search needs
 
--- src/fill.rt:51:5
 loop-again : tie.Need-loop-again Inv-loop μ-loop
 loop-again c =
     (simp length-set (omega arith), simp length-set (c .before .before .loop .inv .1), fill-next _ _ _ _ (c .before .loop-test .taken) (c .before .before .loop .inv .2) (c .optional-or-zero .ensures))
 
--- src/fill.rt:46:1
 same-length : tie.Need-same-length Inv-loop μ-loop
 same-length c = search needs
 
--- src/fill.rt:46:1
 returns : tie.Need-returns Inv-loop μ-loop
 returns c =
     fill-done _ _ _ _ _ (c .before .before .before .before .pre .0) (c .before .loop .inv .1) (omega arith) (omega arith) (c .before .loop .inv .2)

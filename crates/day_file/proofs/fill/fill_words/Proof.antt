@@ -9,9 +9,6 @@ use Rattle.day_file.specs.File.{wordAt}
 use borrow.Author.Needs.{needs}
 use Rattle.day_file.proofs.fill.fill_words.Statement.{statement}
 use Rattle.day_file.proofs.fill.fill_words.Tie as tie
-use Rattle.day_file.proofs.fill.fill_words.Reads as reads
-use Rattle.day_file.proofs.fill.fill_words.Lts as lts
-use Rattle.day_file.proofs.fill.word_or_zero.Reads as word-or-zero-reads
 
 abbrev Inv-loop : tie.InvT-loop
 Inv-loop file at step n pool₀ i₀ pool i =
@@ -21,41 +18,32 @@ abbrev μ-loop : tie.MeasureT-loop
 μ-loop file at step n pool₀ i₀ pool i =
     length pool₀ - i
 
--- src/fill.rt:28:5
 loop-holds : tie.Need-loop-holds Inv-loop μ-loop
 loop-holds c =
     (search needs, refl, fill-start _)
 
--- src/fill.rt:29:19
 word-or-zero-requires : tie.Need-word-or-zero-requires Inv-loop μ-loop
 word-or-zero-requires c κs = search needs
 
--- src/fill.rt:29:9
 mul-pool : tie.Need-mul-pool Inv-loop μ-loop
 mul-pool c = search needs
 
--- src/fill.rt:29:9
 slice-write-pool : tie.Need-slice-write-pool Inv-loop μ-loop
 slice-write-pool c = search needs
 
--- src/fill.rt:30:9
 add-i : tie.Need-add-i Inv-loop μ-loop
 add-i c = search needs
 
--- src/fill.rt:28:5
 loop-less : tie.Need-loop-less Inv-loop μ-loop
 loop-less c = search needs
 
--- src/fill.rt:28:5
 loop-again : tie.Need-loop-again Inv-loop μ-loop
 loop-again c =
     (simp length-set (omega arith), simp length-set (c .before .before .loop .inv .1), fill-next _ _ _ _ (c .before .loop-test .taken) (c .before .before .loop .inv .2) (c .word-or-zero .ensures))
 
--- src/fill.rt:23:1
 same-length : tie.Need-same-length Inv-loop μ-loop
 same-length c = search needs
 
--- src/fill.rt:23:1
 returns : tie.Need-returns Inv-loop μ-loop
 returns c =
     fill-done _ _ _ _ _ (c .before .before .before .before .pre .0) (c .before .loop .inv .1) (omega arith) (omega arith) (c .before .loop .inv .2)

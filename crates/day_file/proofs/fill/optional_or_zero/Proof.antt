@@ -4,27 +4,20 @@ use Rattle.lists.proofs.Flat.{or-zero-at, or-zero-past}
 use borrow.Author.Needs.{needs}
 use Rattle.day_file.proofs.fill.optional_or_zero.Statement.{statement}
 use Rattle.day_file.proofs.fill.optional_or_zero.Tie as tie
-use Rattle.day_file.proofs.fill.optional_or_zero.Reads as reads
-use Rattle.day_file.proofs.fill.optional_or_zero.Lts as lts
 
--- src/fill.rt:40:9
 returns : tie.Need-returns
 returns c =
     or-zero-past _ _ _ (c .if1 .taken)
 
--- src/fill.rt:42:15
 mul-result : tie.Need-mul-result
 mul-result c = search needs
 
--- src/fill.rt:42:10
 add-result : tie.Need-add-result
 add-result c = search needs
 
--- src/fill.rt:42:5
 shared-slice-read-result : tie.Need-shared-slice-read-result
 shared-slice-read-result c = search needs
 
--- src/fill.rt:35:1
 returns-2 : tie.Need-returns-2
 returns-2 c =
     or-zero-at _ _ _ (c .before .if1 .left) refl

@@ -1,34 +1,25 @@
 -- A word within the n stands within the file.
 use native.Mathlib.Omega.{arith}
 use Rattle.lists.proofs.Flat.{or-zero-at, or-zero-past}
-use borrow.Author.Needs.{needs}
 use Rattle.day_file.proofs.fill.word_or_zero.Statement.{statement}
 use Rattle.day_file.proofs.fill.word_or_zero.Tie as tie
-use Rattle.day_file.proofs.fill.word_or_zero.Reads as reads
-use Rattle.day_file.proofs.fill.word_or_zero.Lts as lts
-use Rattle.day_file.proofs.word.word_at.Reads as word-at-reads
 
--- src/fill.rt:17:9
 returns : tie.Need-returns
 returns c =
     or-zero-past _ _ _ (c .if1 .taken)
 
--- src/fill.rt:19:24
 mul-word-at : tie.Need-mul-word-at
 mul-word-at c =
     omega (arith, c .before .before .pre (c .before .before .args .i) (c .if1 .left))
 
--- src/fill.rt:19:19
 add-word-at : tie.Need-add-word-at
 add-word-at c =
     omega (arith, c .before .before .pre (c .before .before .args .i) (c .if1 .left))
 
--- src/fill.rt:19:5
 word-at-requires : tie.Need-word-at-requires
 word-at-requires c κs =
     c .before .before .pre _ (c .if1 .left)
 
--- src/fill.rt:12:1
 returns-2 : tie.Need-returns-2
 returns-2 c =
     or-zero-at _ _ _ (c .before .if1 .left) (c .word-at .ensures)

@@ -11,8 +11,6 @@ use Rattle.lists.proofs.Through.{all-none, all-done}
 use borrow.Author.Needs.{needs}
 use Rattle.day_file.proofs.judge.optional_in.Statement.{statement}
 use Rattle.day_file.proofs.judge.optional_in.Tie as tie
-use Rattle.day_file.proofs.judge.optional_in.Reads as reads
-use Rattle.day_file.proofs.judge.optional_in.Lts as lts
 
 abbrev Inv-loop : tie.InvT-loop
 Inv-loop file n i₀ i =
@@ -22,42 +20,33 @@ abbrev μ-loop : tie.MeasureT-loop
 μ-loop file n i₀ i =
     n - i
 
--- src/judge.rt:24:5
 loop-holds : tie.Need-loop-holds Inv-loop μ-loop
 loop-holds c =
     (search needs, all-none _)
 
--- src/judge.rt:25:26
 mul-if1 : tie.Need-mul-if1 Inv-loop μ-loop
 mul-if1 c = search needs
 
--- src/judge.rt:25:21
 add-if1 : tie.Need-add-if1 Inv-loop μ-loop
 add-if1 c = search needs
 
--- src/judge.rt:25:16
 shared-slice-read-if1 : tie.Need-shared-slice-read-if1 Inv-loop μ-loop
 shared-slice-read-if1 c = search needs
 
--- src/judge.rt:26:13
 returns : tie.Need-returns Inv-loop μ-loop
 returns c =
     sym (one-fails _ _ _ (c .before .before .loop-test .taken) (lt-leb _ _ (c .if1 .taken)))
 
--- src/judge.rt:28:9
 add-i : tie.Need-add-i Inv-loop μ-loop
 add-i c = search needs
 
--- src/judge.rt:24:5
 loop-less : tie.Need-loop-less Inv-loop μ-loop
 loop-less c = search needs
 
--- src/judge.rt:24:5
 loop-again : tie.Need-loop-again Inv-loop μ-loop
 loop-again c =
     (search needs, all-more _ _ (c .before .before .before .loop .inv .1) (le-leb _ _ (c .if1 .left)))
 
--- src/judge.rt:19:1
 returns-2 : tie.Need-returns-2 Inv-loop μ-loop
 returns-2 c =
     all-done _ _ _ (c .before .loop .inv .0) (c .loop-test .left) (c .before .loop .inv .1)

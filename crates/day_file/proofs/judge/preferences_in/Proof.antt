@@ -8,9 +8,6 @@ use Rattle.day_file.proofs.JudgeLaws.{under, under-fails, under-more}
 use borrow.Author.Needs.{needs}
 use Rattle.day_file.proofs.judge.preferences_in.Statement.{statement}
 use Rattle.day_file.proofs.judge.preferences_in.Tie as tie
-use Rattle.day_file.proofs.judge.preferences_in.Reads as reads
-use Rattle.day_file.proofs.judge.preferences_in.Lts as lts
-use Rattle.day_file.proofs.word.word_at.Reads as word-at-reads
 
 abbrev Inv-loop : tie.InvT-loop
 Inv-loop file at n last i₀ i =
@@ -20,42 +17,33 @@ abbrev μ-loop : tie.MeasureT-loop
 μ-loop file at n last i₀ i =
     n - i
 
--- src/judge.rt:54:5
 loop-holds : tie.Need-loop-holds Inv-loop μ-loop
 loop-holds c =
     (search needs, all-none _)
 
--- src/judge.rt:55:38
 mul-word-at : tie.Need-mul-word-at Inv-loop μ-loop
 mul-word-at c = search needs
 
--- src/judge.rt:55:33
 add-word-at : tie.Need-add-word-at Inv-loop μ-loop
 add-word-at c = search needs
 
--- src/judge.rt:55:19
 word-at-requires : tie.Need-word-at-requires Inv-loop μ-loop
 word-at-requires c κs = search needs
 
--- src/judge.rt:56:13
 returns : tie.Need-returns Inv-loop μ-loop
 returns c =
     under-fails _ _ _ _ (c .before .word-at .ensures) _ (c .before .before .loop-test .taken) (c .if1 .taken)
 
--- src/judge.rt:58:9
 add-i : tie.Need-add-i Inv-loop μ-loop
 add-i c = search needs
 
--- src/judge.rt:54:5
 loop-less : tie.Need-loop-less Inv-loop μ-loop
 loop-less c = search needs
 
--- src/judge.rt:54:5
 loop-again : tie.Need-loop-again Inv-loop μ-loop
 loop-again c =
     (search needs, under-more _ _ _ _ (c .before .word-at .ensures) (c .before .before .before .loop .inv .1) (c .if1 .left))
 
--- src/judge.rt:49:1
 returns-2 : tie.Need-returns-2 Inv-loop μ-loop
 returns-2 c =
     all-done _ _ _ (c .before .loop .inv .0) (c .loop-test .left) (c .before .loop .inv .1)

@@ -11,38 +11,26 @@ use Rattle.day_file.proofs.JudgeLaws.{rows-read}
 use borrow.Author.Needs.{needs}
 use Rattle.day_file.proofs.judge.rows_in.Statement.{statement}
 use Rattle.day_file.proofs.judge.rows_in.Tie as tie
-use Rattle.day_file.proofs.judge.rows_in.Reads as reads
-use Rattle.day_file.proofs.judge.rows_in.Lts as lts
-use Rattle.constraint.proofs.check.check_each_row.Reads as check-each-row-reads
-use Rattle.day_file.proofs.fill.fill_rows.Reads as fill-rows-reads
-use Rattle.day_file.proofs.judge.no_rows.Reads as no-rows-reads
 
--- src/judge.rt:74:20
 no-rows-requires : tie.Need-no-rows-requires
 no-rows-requires c κs = search needs
 
--- src/judge.rt:75:28
 slice-aggregate-fill-rows : tie.Need-slice-aggregate-fill-rows
 slice-aggregate-fill-rows c = search needs
 
--- src/judge.rt:75:5
 fill-rows-requires : tie.Need-fill-rows-requires
 fill-rows-requires c κs = search needs
 
--- src/judge.rt:76:59
 array-share-prefix-rows : tie.Need-array-share-prefix-rows
 array-share-prefix-rows c = search needs
 
--- src/judge.rt:76:59
 slice-aggregate-check-each-row : tie.Need-slice-aggregate-check-each-row
 slice-aggregate-check-each-row c =
     sym (ap length (rows-read _ _ _ (c .before .before .fill-rows .ensures)) ∙ length-list _ _)
 
--- src/judge.rt:76:5
 check-each-row-requires : tie.Need-check-each-row-requires
 check-each-row-requires c κs = search needs
 
--- src/judge.rt:70:1
 returns : tie.Need-returns
 returns c =
     c .check-each-row .ensures ∙ ap (λ (l : List ℕ). rowsOf (c .before .before .before .before .before .before .before .args .counts) takes.All l) (rows-read _ _ _ (c .before .before .before .fill-rows .ensures))

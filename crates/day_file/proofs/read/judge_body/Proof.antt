@@ -1,78 +1,59 @@
 -- Each return is one law: the tests before it held, and its own did not.
 use borrow.Author.Tests.{not-true, not-false}
-use Rattle.day_file.proofs.CountLaws.{within, levels-within, last-stands, last-within, preferences-within, rows-ask}
+use Rattle.day_file.proofs.CountLaws.{within, levels-within, preferences-within, rows-ask}
 use Rattle.day_file.proofs.ReadLaws.{body-optional, body-levels, body-preference, body-rows}
 use mathlib.Core.Path.{refl}
+use native.Mathlib.Omega.{arith}
 use borrow.Author.Needs.{needs}
 use Rattle.day_file.proofs.read.judge_body.Statement.{statement}
 use Rattle.day_file.proofs.read.judge_body.Tie as tie
-use Rattle.day_file.proofs.read.judge_body.Reads as reads
-use Rattle.day_file.proofs.read.judge_body.Lts as lts
-use Rattle.day_file.proofs.counts.DayCounts.for_rows.Reads as for-rows-reads
-use Rattle.day_file.proofs.counts.DayCounts.places.Reads as places-reads
-use Rattle.day_file.proofs.judge.levels_in.Reads as levels-in-reads
-use Rattle.day_file.proofs.judge.optional_in.Reads as optional-in-reads
-use Rattle.day_file.proofs.judge.preferences_in.Reads as preferences-in-reads
-use Rattle.day_file.proofs.judge.rows_in.Reads as rows-in-reads
-use Rattle.day_file.proofs.word.word_at.Reads as word-at-reads
 
--- src/read.rt:80:9
 places-requires : tie.Need-places-requires
 places-requires c κs = search needs
 
--- src/read.rt:81:9
 optional-in-requires : tie.Need-optional-in-requires
 optional-in-requires c κs = search needs
 
--- src/read.rt:82:9
 returns : tie.Need-returns
 returns c =
     body-optional _ _ (c .before .before .places .ensures) (c .before .optional-in .ensures) (not-true _ (c .if1 .taken))
 
--- src/read.rt:84:9
 levels-in-requires : tie.Need-levels-in-requires
 levels-in-requires c κs =
     levels-within (within (c .before .before .before .before .pre .0) (c .before .before .before .before .pre .1) (c .before .before .places .ensures))
 
--- src/read.rt:85:9
 returns-2 : tie.Need-returns-2
 returns-2 c =
     body-levels _ _ (c .before .before .before .before .places .ensures) (c .before .before .before .optional-in .ensures) (not-false _ (c .before .before .if1 .left)) (c .before .levels-in .ensures) (not-true _ (c .if2 .taken))
 
--- src/read.rt:87:30
 sub-word-at : tie.Need-sub-word-at
 sub-word-at c =
-    last-stands (within (c .before .before .before .before .before .before .before .pre .0) (c .before .before .before .before .before .before .before .pre .1) (c .before .before .before .before .before .places .ensures))
+    let w = within (c .before .before .before .before .before .before .before .pre .0) (c .before .before .before .before .before .before .before .pre .1) (c .before .before .before .before .before .places .ensures) in
+    omega arith
 
--- src/read.rt:87:9
 word-at-requires : tie.Need-word-at-requires
 word-at-requires c κs =
-    last-within (within (c .before .before .before .before .before .before .before .pre .0) (c .before .before .before .before .before .before .before .pre .1) (c .before .before .before .before .before .places .ensures))
+    let w = within (c .before .before .before .before .before .before .before .pre .0) (c .before .before .before .before .before .before .before .pre .1) (c .before .before .before .before .before .places .ensures) in
+    omega arith
 
--- src/read.rt:91:9
 mul-preferences-in : tie.Need-mul-preferences-in
 mul-preferences-in c = search needs
 
--- src/read.rt:88:9
 preferences-in-requires : tie.Need-preferences-in-requires
 preferences-in-requires c κs =
     preferences-within (within (c .before .before .before .before .before .before .before .before .before .pre .0) (c .before .before .before .before .before .before .before .before .before .pre .1) (c .before .before .before .before .before .before .before .places .ensures))
 
--- src/read.rt:94:9
 returns-3 : tie.Need-returns-3
 returns-3 c =
     body-preference _ _ (c .before .before .before .before .before .before .before .before .before .places .ensures) (c .before .before .before .before .before .before .before .before .optional-in .ensures) (not-false _ (c .before .before .before .before .before .before .before .if1 .left)) (c .before .before .before .before .before .before .levels-in .ensures) (not-false _ (c .before .before .before .before .before .if2 .left)) (within (c .before .before .before .before .before .before .before .before .before .before .before .pre .0) (c .before .before .before .before .before .before .before .before .before .before .before .pre .1) (c .before .before .before .before .before .before .before .before .before .places .ensures)) (c .before .before .before .word-at .ensures) (c .before .preferences-in .ensures) (not-true _ (c .if3 .taken))
 
--- src/read.rt:96:45
 for-rows-requires : tie.Need-for-rows-requires
 for-rows-requires c κs = search needs
 
--- src/read.rt:96:5
 rows-in-requires : tie.Need-rows-in-requires
 rows-in-requires c κs =
     rows-ask (within (c .before .before .before .before .before .before .before .before .before .before .before .before .pre .0) (c .before .before .before .before .before .before .before .before .before .before .before .before .pre .1) (c .before .before .before .before .before .before .before .before .before .before .places .ensures)) refl
 
--- src/read.rt:76:1
 returns-4 : tie.Need-returns-4
 returns-4 c =
     body-rows _ _ (c .before .before .before .before .before .before .before .before .before .before .before .places .ensures) (c .before .before .before .before .before .before .before .before .before .before .optional-in .ensures) (not-false _ (c .before .before .before .before .before .before .before .before .before .if1 .left)) (c .before .before .before .before .before .before .before .before .levels-in .ensures) (not-false _ (c .before .before .before .before .before .before .before .if2 .left)) (within (c .before .before .before .before .before .before .before .before .before .before .before .before .before .pre .0) (c .before .before .before .before .before .before .before .before .before .before .before .before .before .pre .1) (c .before .before .before .before .before .before .before .before .before .before .before .places .ensures)) (c .before .before .before .before .before .word-at .ensures) (c .before .before .before .preferences-in .ensures) (not-false _ (c .before .before .if3 .left)) (c .before .for-rows .ensures) (c .rows-in .ensures)

@@ -5,64 +5,46 @@ use Rattle.day_file.proofs.ReadLaws.{head-short, head-length, head-vers
 use borrow.Author.Needs.{needs}
 use Rattle.day_file.proofs.read.judge_head.Statement.{statement}
 use Rattle.day_file.proofs.read.judge_head.Tie as tie
-use Rattle.day_file.proofs.read.judge_head.Reads as reads
-use Rattle.day_file.proofs.read.judge_head.Lts as lts
-use Rattle.day_file.proofs.counts.DayCounts.in_range.Reads as in-range-reads
-use Rattle.day_file.proofs.counts.DayCounts.places.Reads as places-reads
-use Rattle.day_file.proofs.read.counts_in.Reads as counts-in-reads
-use Rattle.day_file.proofs.read.length_in.Reads as length-in-reads
 
--- src/read.rt:57:9
 returns : tie.Need-returns
 returns c =
     head-short _ (c .if1 .taken)
 
--- src/read.rt:59:8
 length-in-requires : tie.Need-length-in-requires
 length-in-requires c κs = search needs
 
--- src/read.rt:59:27
 sub-if2 : tie.Need-sub-if2
 sub-if2 c = search needs
 
--- src/read.rt:60:9
 returns-2 : tie.Need-returns-2
 returns-2 c =
     head-length _ (c .before .before .if1 .left) (c .before .length-in .ensures) (c .if2 .taken)
 
--- src/read.rt:62:8
 shared-slice-read-if3 : tie.Need-shared-slice-read-if3
 shared-slice-read-if3 c = search needs
 
--- src/read.rt:63:9
 returns-3 : tie.Need-returns-3
 returns-3 c =
     head-version _ (c .before .before .before .before .if1 .left) (c .before .before .before .length-in .ensures) (c .before .before .if2 .left) (c .if3 .taken)
 
--- src/read.rt:65:9
 counts-in-requires : tie.Need-counts-in-requires
 counts-in-requires c κs = search needs
 
--- src/read.rt:66:9
 in-range-requires : tie.Need-in-range-requires
 in-range-requires c κs = search needs
 
--- src/read.rt:67:9
 returns-4 : tie.Need-returns-4
 returns-4 c =
     head-counts _ (c .before .before .before .before .before .before .before .if1 .left) (c .before .before .before .before .before .before .length-in .ensures) (c .before .before .before .before .before .if2 .left) (c .before .before .before .if3 .left) (c .before .before .counts-in .ensures) (c .before .in-range .ensures) (not-true _ (c .if4 .taken))
 
--- src/read.rt:69:8
 places-requires : tie.Need-places-requires
 places-requires c κs =
     sym (c .before .in-range .ensures) ∙ not-false _ (c .if4 .left)
 
--- src/read.rt:70:9
 returns-5 : tie.Need-returns-5
 returns-5 c =
     head-body _ (c .before .before .before .before .before .before .before .before .before .before .if1 .left) (c .before .before .before .before .before .before .before .before .before .length-in .ensures) (c .before .before .before .before .before .before .before .before .if2 .left) (c .before .before .before .before .before .before .if3 .left) (c .before .before .before .before .before .counts-in .ensures) (c .before .before .before .before .in-range .ensures) (not-false _ (c .before .before .before .if4 .left)) (c .before .before .places .ensures) (c .if5 .taken)
 
--- src/read.rt:53:1
 returns-6 : tie.Need-returns-6
 returns-6 c =
     head-good _ (c .before .before .before .before .before .before .before .before .before .before .if1 .left) (c .before .before .before .before .before .before .before .before .before .length-in .ensures) (c .before .before .before .before .before .before .before .before .if2 .left) (c .before .before .before .before .before .before .if3 .left) (c .before .before .before .before .before .counts-in .ensures) (c .before .before .before .before .in-range .ensures) (not-false _ (c .before .before .before .if4 .left)) (c .before .before .places .ensures) (c .if5 .left)

@@ -4,40 +4,32 @@ use borrow.Author.Tests.{eq-eqb, ne-eqb}
 use Rattle.day_file.specs.Day.{lengthsFull}
 use Rattle.day_file.proofs.read.pools_full.Statement.{statement}
 use Rattle.day_file.proofs.read.pools_full.Tie as tie
-use Rattle.day_file.proofs.read.pools_full.Reads as reads
-use Rattle.day_file.proofs.read.pools_full.Lts as lts
 
--- src/read.rt:122:9
 returns : tie.Need-returns
 unfolding lengthsFull
 returns c =
     rw (ne-eqb _ _ (c .if1 .taken))
 
--- src/read.rt:125:9
 returns-2 : tie.Need-returns-2
 unfolding lengthsFull
 returns-2 c =
     rw (eq-eqb _ _ (c .before .if1 .left), ne-eqb _ _ (c .if2 .taken))
 
--- src/read.rt:128:9
 returns-3 : tie.Need-returns-3
 unfolding lengthsFull
 returns-3 c =
     rw (eq-eqb _ _ (c .before .before .if1 .left), eq-eqb _ _ (c .before .if2 .left), ne-eqb _ _ (c .if3 .taken))
 
--- src/read.rt:131:9
 returns-4 : tie.Need-returns-4
 unfolding lengthsFull
 returns-4 c =
     rw (eq-eqb _ _ (c .before .before .before .if1 .left), eq-eqb _ _ (c .before .before .if2 .left), eq-eqb _ _ (c .before .if3 .left), ne-eqb _ _ (c .if4 .taken))
 
--- src/read.rt:134:9
 returns-5 : tie.Need-returns-5
 unfolding lengthsFull
 returns-5 c =
     rw (eq-eqb _ _ (c .before .before .before .before .if1 .left), eq-eqb _ _ (c .before .before .before .if2 .left), eq-eqb _ _ (c .before .before .if3 .left), eq-eqb _ _ (c .before .if4 .left), ne-eqb _ _ (c .if5 .taken))
 
--- src/read.rt:111:1
 returns-6 : tie.Need-returns-6
 unfolding lengthsFull
 returns-6 c =

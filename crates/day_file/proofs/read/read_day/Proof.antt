@@ -6,32 +6,21 @@ use mathlib.Core.Path.{_≡_, sym, _∙_}
 use borrow.Author.Needs.{needs}
 use Rattle.day_file.proofs.read.read_day.Statement.{statement}
 use Rattle.day_file.proofs.read.read_day.Tie as tie
-use Rattle.day_file.proofs.read.read_day.Reads as reads
-use Rattle.day_file.proofs.read.read_day.Lts as lts
-use Rattle.day_file.proofs.read.counts_in.Reads as counts-in-reads
-use Rattle.day_file.proofs.read.fill_pools.Reads as fill-pools-reads
-use Rattle.day_file.proofs.read.judge_file.Reads as judge-file-reads
-use Rattle.day_file.proofs.read.pools_full.Reads as pools-full-reads
 
--- src/read.rt:180:9
 pools-full-requires : tie.Need-pools-full-requires
 pools-full-requires c κs = search needs
 
--- src/read.rt:188:9
 returns : tie.Need-returns
 returns c =
     let s = c .before .before .before .before .before .before .before .before .before in
     read-short _ (parts (s .args .mins .now) (s .args .maxs .now) (s .args .optional .now) (s .args .levels .now) (s .args .preferences .now) (s .args .rows .now)) (c .before .pools-full .ensures) (not-true _ (c .if1 .taken))
 
--- src/read.rt:190:9
 judge-file-requires : tie.Need-judge-file-requires
 judge-file-requires c κs = search needs
 
--- src/read.rt:191:29
 enum-known-judged : tie.Need-enum-known-judged
 enum-known-judged c = search needs
 
--- src/read.rt:192:9
 returns-2 : tie.Need-returns-2
 returns-2 c =
     let s = c .before .before .before .before .before .before .before .before .before .before .before .before .before in
@@ -40,44 +29,35 @@ returns-2 c =
 enum-told : tie.Need-enum-told
 enum-told c = search needs
 
--- src/read.rt:194:9
 counts-in-requires : tie.Need-counts-in-requires
 counts-in-requires c κs =
     let s = c .before .before .before .before .before .before .before .before .before .before .before .before in
     read-head _ (parts (s .args .mins .now) (s .args .maxs .now) (s .args .optional .now) (s .args .levels .now) (s .args .preferences .now) (s .args .rows .now)) (c .before .before .before .before .pools-full .ensures) (not-false _ (c .before .before .before .if1 .left)) (c .before .before .judge-file .ensures) (c .enum-told .given .1) .long
 
--- src/read.rt:195:5
 fill-pools-requires : tie.Need-fill-pools-requires
 fill-pools-requires c κs =
     let s = c .before .before .before .before .before .before .before .before .before .before .before .before .before .before .before .before .before .before .before in
     let h = read-head _ (parts (s .args .mins .now) (s .args .maxs .now) (s .args .optional .now) (s .args .levels .now) (s .args .preferences .now) (s .args .rows .now)) (c .before .before .before .before .before .before .before .before .before .before .before .pools-full .ensures) (not-false _ (c .before .before .before .before .before .before .before .before .before .before .if1 .left)) (c .before .before .before .before .before .before .before .before .before .judge-file .ensures) (c .before .before .before .before .before .before .before .enum-told .given .1) in
     (counts-keep _ h (c .before .before .before .before .before .before .counts-in .ensures), (counts-end _ h (c .before .before .before .before .before .before .counts-in .ensures), sym (c .before .before .before .before .before .before .before .before .before .before .before .pools-full .ensures) ∙ not-false _ (c .before .before .before .before .before .before .before .before .before .before .if1 .left)))
 
--- src/read.rt:169:1
 same-length : tie.Need-same-length
 same-length c = search needs
 
--- src/read.rt:169:1
 same-length-2 : tie.Need-same-length-2
 same-length-2 c = search needs
 
--- src/read.rt:169:1
 same-length-3 : tie.Need-same-length-3
 same-length-3 c = search needs
 
--- src/read.rt:169:1
 same-length-4 : tie.Need-same-length-4
 same-length-4 c = search needs
 
--- src/read.rt:169:1
 same-length-5 : tie.Need-same-length-5
 same-length-5 c = search needs
 
--- src/read.rt:169:1
 same-length-6 : tie.Need-same-length-6
 same-length-6 c = search needs
 
--- src/read.rt:169:1
 returns-3 : tie.Need-returns-3
 returns-3 c =
     let s = c .before .before .before .before .before .before .before .before .before .before .before .before .before .before .before .before .before .before .before .before .before .before .before .before .before .before .before .before .before .before .before .before in

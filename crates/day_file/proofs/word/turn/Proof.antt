@@ -4,20 +4,15 @@ use Rattle.day_file.specs.File.{turned}
 use borrow.Author.Needs.{needs}
 use Rattle.day_file.proofs.word.turn.Statement.{statement}
 use Rattle.day_file.proofs.word.turn.Tie as tie
-use Rattle.day_file.proofs.word.turn.Reads as reads
-use Rattle.day_file.proofs.word.turn.Lts as lts
 
--- src/word.rt:38:16
 add-result : tie.Need-add-result
 add-result c = search needs
 
--- src/word.rt:38:9
 returns : tie.Need-returns
 unfolding turned
 returns c =
     omega arith
 
--- src/word.rt:34:1
 returns-2 : tie.Need-returns-2
 unfolding turned
 returns-2 c =

@@ -13,8 +13,6 @@ use Rattle.day_file.specs.Day.{levelsRise}
 use borrow.Author.Needs.{needs}
 use Rattle.day_writer.proofs.judge.levels_rise.Statement.{statement}
 use Rattle.day_writer.proofs.judge.levels_rise.Tie as tie
-use Rattle.day_writer.proofs.judge.levels_rise.Reads as reads
-use Rattle.day_writer.proofs.judge.levels_rise.Lts as lts
 
 abbrev Inv-loop : tie.InvT-loop
 Inv-loop levels i₀ i =
@@ -24,55 +22,43 @@ abbrev μ-loop : tie.MeasureT-loop
 μ-loop levels i₀ i =
     length levels - 1 - i
 
--- src/judge.rt:10:5
 loop-holds : tie.Need-loop-holds Inv-loop μ-loop
 loop-holds c =
     (search needs, all-none _)
 
--- src/judge.rt:10:11
 add-loop : tie.Need-add-loop Inv-loop μ-loop
 add-loop c = search needs
 
--- src/judge.rt:11:19
 add-if1 : tie.Need-add-if1 Inv-loop μ-loop
 add-if1 c = search needs
 
--- src/judge.rt:11:12
 mul-if1 : tie.Need-mul-if1 Inv-loop μ-loop
 mul-if1 c = search needs
 
--- src/judge.rt:11:12
 shared-slice-read-if1 : tie.Need-shared-slice-read-if1 Inv-loop μ-loop
 shared-slice-read-if1 c = search needs
 
--- src/judge.rt:11:29
 mul-if1-2 : tie.Need-mul-if1-2 Inv-loop μ-loop
 mul-if1-2 c = search needs
 
--- src/judge.rt:11:29
 shared-slice-read-if1-2 : tie.Need-shared-slice-read-if1-2 Inv-loop μ-loop
 shared-slice-read-if1-2 c = search needs
 
--- src/judge.rt:12:13
 returns : tie.Need-returns Inv-loop μ-loop
 unfolding levelsRise
 returns c =
     sym (one-fails _ _ _ (omega arith) (le-ltb _ _ (c .if1 .taken)))
 
--- src/judge.rt:14:9
 add-i : tie.Need-add-i Inv-loop μ-loop
 add-i c = search needs
 
--- src/judge.rt:10:5
 loop-less : tie.Need-loop-less Inv-loop μ-loop
 loop-less c = search needs
 
--- src/judge.rt:10:5
 loop-again : tie.Need-loop-again Inv-loop μ-loop
 loop-again c =
     (omega arith, all-more _ _ (c .before .before .before .before .loop .inv .1) (lt-ltb _ _ (c .if1 .left)))
 
--- src/judge.rt:6:1
 returns-2 : tie.Need-returns-2 Inv-loop μ-loop
 unfolding levelsRise
 returns-2 c =

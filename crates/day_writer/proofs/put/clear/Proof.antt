@@ -7,8 +7,6 @@ use Rattle.lists.proofs.Pad.{zeros-more, zeros-all}
 use borrow.Author.Needs.{needs}
 use Rattle.day_writer.proofs.put.clear.Statement.{statement}
 use Rattle.day_writer.proofs.put.clear.Tie as tie
-use Rattle.day_writer.proofs.put.clear.Reads as reads
-use Rattle.day_writer.proofs.put.clear.Lts as lts
 
 abbrev Inv-loop : tie.InvT-loop
 Inv-loop pool₀ i₀ pool i =
@@ -18,33 +16,26 @@ abbrev μ-loop : tie.MeasureT-loop
 μ-loop pool₀ i₀ pool i =
     length pool₀ - i
 
--- src/put.rt:20:5
 loop-holds : tie.Need-loop-holds Inv-loop μ-loop
 loop-holds c =
     (search needs, refl, refl)
 
--- src/put.rt:21:9
 slice-write-pool : tie.Need-slice-write-pool Inv-loop μ-loop
 slice-write-pool c = search needs
 
--- src/put.rt:22:9
 add-i : tie.Need-add-i Inv-loop μ-loop
 add-i c = search needs
 
--- src/put.rt:20:5
 loop-less : tie.Need-loop-less Inv-loop μ-loop
 loop-less c = search needs
 
--- src/put.rt:20:5
 loop-again : tie.Need-loop-again Inv-loop μ-loop
 loop-again c =
     (omega arith, simp length-set (c .before .loop .inv .1), zeros-more (c .before .loop .pool) (c .before .loop .i) (omega arith) (c .before .loop .inv .2))
 
--- src/put.rt:16:1
 same-length : tie.Need-same-length Inv-loop μ-loop
 same-length c = search needs
 
--- src/put.rt:16:1
 returns : tie.Need-returns Inv-loop μ-loop
 returns c =
     zeros-all _ _ _ (c .before .loop .inv .1) (omega arith) (c .before .loop .inv .0) (c .before .loop .inv .2)

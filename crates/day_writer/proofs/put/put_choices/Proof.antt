@@ -12,9 +12,6 @@ use Rattle.day_writer.proofs.WriteLaws.{choice-is}
 use borrow.Author.Needs.{needs}
 use Rattle.day_writer.proofs.put.put_choices.Statement.{statement}
 use Rattle.day_writer.proofs.put.put_choices.Tie as tie
-use Rattle.day_writer.proofs.put.put_choices.Reads as reads
-use Rattle.day_writer.proofs.put.put_choices.Lts as lts
-use Rattle.day_writer.proofs.put.put_choice.Reads as put-choice-reads
 
 abbrev Inv-loop : tie.InvT-loop
 Inv-loop pool₀ n mins maxs optional i₀ pool i =
@@ -24,70 +21,54 @@ abbrev μ-loop : tie.MeasureT-loop
 μ-loop pool₀ n mins maxs optional i₀ pool i =
     n - i
 
--- src/put.rt:88:5
 loop-holds : tie.Need-loop-holds Inv-loop μ-loop
 loop-holds c =
     (search needs, refl, sets-start _ _ _)
 
--- src/put.rt:89:31
 mul-put-choice : tie.Need-mul-put-choice Inv-loop μ-loop
 mul-put-choice c = search needs
 
--- src/put.rt:89:26
 add-put-choice : tie.Need-add-put-choice Inv-loop μ-loop
 add-put-choice c = search needs
 
--- src/put.rt:89:38
 mul-put-choice-2 : tie.Need-mul-put-choice-2 Inv-loop μ-loop
 mul-put-choice-2 c = search needs
 
--- src/put.rt:89:38
 shared-slice-read-put-choice : tie.Need-shared-slice-read-put-choice Inv-loop μ-loop
 shared-slice-read-put-choice c = search needs
 
--- src/put.rt:89:47
 mul-put-choice-3 : tie.Need-mul-put-choice-3 Inv-loop μ-loop
 mul-put-choice-3 c = search needs
 
--- src/put.rt:89:47
 shared-slice-read-put-choice-2 : tie.Need-shared-slice-read-put-choice-2 Inv-loop μ-loop
 shared-slice-read-put-choice-2 c = search needs
 
--- src/put.rt:89:56
 shared-slice-read-put-choice-3 : tie.Need-shared-slice-read-put-choice-3 Inv-loop μ-loop
 shared-slice-read-put-choice-3 c = search needs
 
--- src/put.rt:89:9
 put-choice-requires : tie.Need-put-choice-requires Inv-loop μ-loop
 put-choice-requires c κs = search needs
 
--- src/put.rt:90:9
 add-i : tie.Need-add-i Inv-loop μ-loop
 add-i c = search needs
 
--- src/put.rt:88:5
 loop-less : tie.Need-loop-less Inv-loop μ-loop
 loop-less c = search needs
 
--- src/put.rt:88:5
 loop-again : tie.Need-loop-again Inv-loop μ-loop
 loop-again c =
     let s = c .before .before .before .before .before .before .before .before .before .before .before .before .before in
     (omega arith, c .before .before .put-choice .kept .0 ∙ c .before .before .before .before .before .before .before .before .loop .inv .1, sets-join 5 (choiceBytes (s .args .mins .now) (s .args .maxs .now) (s .args .optional .now)) (length-choice (s .args .mins .now) (s .args .maxs .now) (s .args .optional .now)) _ _ _ (c .before .before .before .before .before .before .before .before .loop .inv .2) (choice-is _ _ _ _ _ _ (c .before .before .put-choice .ensures)))
 
--- src/put.rt:92:10
 mul-result : tie.Need-mul-result Inv-loop μ-loop
 mul-result c = search needs
 
--- src/put.rt:92:5
 add-result : tie.Need-add-result Inv-loop μ-loop
 add-result c = search needs
 
--- src/put.rt:77:1
 same-length : tie.Need-same-length Inv-loop μ-loop
 same-length c = search needs
 
--- src/put.rt:77:1
 returns : tie.Need-returns Inv-loop μ-loop
 returns c =
     (search needs, sets-done _ _ _ _ _ (c .before .loop .inv .0) (c .loop-test .left) (c .before .loop .inv .2))

@@ -4,30 +4,20 @@ use Rattle.day_writer.proofs.WriteLaws.{head-put, rest-fits}
 use borrow.Author.Needs.{needs}
 use Rattle.day_writer.proofs.put.put_head.Statement.{statement}
 use Rattle.day_writer.proofs.put.put_head.Tie as tie
-use Rattle.day_writer.proofs.put.put_head.Reads as reads
-use Rattle.day_writer.proofs.put.put_head.Lts as lts
-use Rattle.day_writer.proofs.put.put_counts.Reads as put-counts-reads
-use Rattle.day_writer.proofs.put.put_length.Reads as put-length-reads
-use Rattle.day_writer.proofs.put.rest_of.Reads as rest-of-reads
 
--- src/put.rt:62:22
 rest-of-requires : tie.Need-rest-of-requires
 rest-of-requires c κs = search needs
 
--- src/put.rt:62:5
 put-length-requires : tie.Need-put-length-requires
 put-length-requires c κs =
     (rest-fits (in-range _ (c .before .before .before .pre .0)) (c .rest-of .ensures), c .before .before .before .pre .1)
 
--- src/put.rt:63:5
 put-counts-requires : tie.Need-put-counts-requires
 put-counts-requires c κs = search needs
 
--- src/put.rt:58:1
 same-length : tie.Need-same-length
 same-length c = search needs
 
--- src/put.rt:58:1
 returns : tie.Need-returns
 returns c =
     head-put _ _ (c .before .before .before .before .before .before .before .rest-of .ensures) (c .before .before .before .before .before .before .put-length .ensures) (c .before .before .put-counts .ensures)

@@ -11,9 +11,6 @@ use Rattle.day_file.proofs.FileLaws.{length-row}
 use borrow.Author.Needs.{needs}
 use Rattle.day_writer.proofs.put.put_rows.Statement.{statement}
 use Rattle.day_writer.proofs.put.put_rows.Tie as tie
-use Rattle.day_writer.proofs.put.put_rows.Reads as reads
-use Rattle.day_writer.proofs.put.put_rows.Lts as lts
-use Rattle.day_writer.proofs.word.put_row.Reads as put-row-reads
 
 abbrev Inv-loop : tie.InvT-loop
 Inv-loop pool₀ at rows i₀ pool i =
@@ -23,59 +20,46 @@ abbrev μ-loop : tie.MeasureT-loop
 μ-loop pool₀ at rows i₀ pool i =
     length rows - i
 
--- src/put.rt:114:5
 loop-holds : tie.Need-loop-holds Inv-loop μ-loop
 loop-holds c =
     (search needs, refl, sets-start _ _ _)
 
--- src/put.rt:115:28
 mul-put-row : tie.Need-mul-put-row Inv-loop μ-loop
 mul-put-row c = search needs
 
--- src/put.rt:115:23
 add-put-row : tie.Need-add-put-row Inv-loop μ-loop
 add-put-row c = search needs
 
--- src/put.rt:115:35
 mul-put-row-2 : tie.Need-mul-put-row-2 Inv-loop μ-loop
 mul-put-row-2 c = search needs
 
--- src/put.rt:115:35
 shared-slice-read-put-row : tie.Need-shared-slice-read-put-row Inv-loop μ-loop
 shared-slice-read-put-row c = search needs
 
--- src/put.rt:115:9
 put-row-requires : tie.Need-put-row-requires Inv-loop μ-loop
 put-row-requires c κs =
     (omega arith, c .before .before .before .before .before .before .pre .1 _ (c .before .before .loop-test .taken))
 
--- src/put.rt:116:9
 add-i : tie.Need-add-i Inv-loop μ-loop
 add-i c = search needs
 
--- src/put.rt:114:5
 loop-less : tie.Need-loop-less Inv-loop μ-loop
 loop-less c = search needs
 
--- src/put.rt:114:5
 loop-again : tie.Need-loop-again Inv-loop μ-loop
 loop-again c =
     let s = c .before .before .before .before .before .before .before .before .before in
     (omega arith, c .before .before .put-row .kept .0 ∙ c .before .before .before .before .before .before .loop .inv .1, sets-join 6 (λ k. rowBytes (getD (s .args .rows .now) k 0)) (λ k. length-row (getD (s .args .rows .now) k 0)) _ _ _ (c .before .before .before .before .before .before .loop .inv .2) (c .before .before .put-row .ensures))
 
--- src/put.rt:118:10
 mul-result : tie.Need-mul-result Inv-loop μ-loop
 mul-result c = search needs
 
--- src/put.rt:118:5
 add-result : tie.Need-add-result Inv-loop μ-loop
 add-result c = search needs
 
--- src/put.rt:109:1
 same-length : tie.Need-same-length Inv-loop μ-loop
 same-length c = search needs
 
--- src/put.rt:109:1
 returns : tie.Need-returns Inv-loop μ-loop
 returns c =
     (search needs, sets-done _ _ _ _ _ (c .before .loop .inv .0) (c .loop-test .left) (c .before .loop .inv .2))

@@ -11,9 +11,6 @@ use Rattle.day_file.proofs.FileLaws.{length-word}
 use borrow.Author.Needs.{needs}
 use Rattle.day_writer.proofs.put.put_words.Statement.{statement}
 use Rattle.day_writer.proofs.put.put_words.Tie as tie
-use Rattle.day_writer.proofs.put.put_words.Reads as reads
-use Rattle.day_writer.proofs.put.put_words.Lts as lts
-use Rattle.day_writer.proofs.word.put_word.Reads as put-word-reads
 
 abbrev Inv-loop : tie.InvT-loop
 Inv-loop pool₀ at words i₀ pool i =
@@ -23,58 +20,45 @@ abbrev μ-loop : tie.MeasureT-loop
 μ-loop pool₀ at words i₀ pool i =
     length words - i
 
--- src/put.rt:101:5
 loop-holds : tie.Need-loop-holds Inv-loop μ-loop
 loop-holds c =
     (search needs, refl, sets-start _ _ _)
 
--- src/put.rt:102:29
 mul-put-word : tie.Need-mul-put-word Inv-loop μ-loop
 mul-put-word c = search needs
 
--- src/put.rt:102:24
 add-put-word : tie.Need-add-put-word Inv-loop μ-loop
 add-put-word c = search needs
 
--- src/put.rt:102:36
 mul-put-word-2 : tie.Need-mul-put-word-2 Inv-loop μ-loop
 mul-put-word-2 c = search needs
 
--- src/put.rt:102:36
 shared-slice-read-put-word : tie.Need-shared-slice-read-put-word Inv-loop μ-loop
 shared-slice-read-put-word c = search needs
 
--- src/put.rt:102:9
 put-word-requires : tie.Need-put-word-requires Inv-loop μ-loop
 put-word-requires c κs = search needs
 
--- src/put.rt:103:9
 add-i : tie.Need-add-i Inv-loop μ-loop
 add-i c = search needs
 
--- src/put.rt:101:5
 loop-less : tie.Need-loop-less Inv-loop μ-loop
 loop-less c = search needs
 
--- src/put.rt:101:5
 loop-again : tie.Need-loop-again Inv-loop μ-loop
 loop-again c =
     let s = c .before .before .before .before .before .before .before .before .before in
     (omega arith, c .before .before .put-word .kept .0 ∙ c .before .before .before .before .before .before .loop .inv .1, sets-join 2 (λ k. word (getD (s .args .words .now) k 0)) (λ k. length-word (getD (s .args .words .now) k 0)) _ _ _ (c .before .before .before .before .before .before .loop .inv .2) (c .before .before .put-word .ensures))
 
--- src/put.rt:105:10
 mul-result : tie.Need-mul-result Inv-loop μ-loop
 mul-result c = search needs
 
--- src/put.rt:105:5
 add-result : tie.Need-add-result Inv-loop μ-loop
 add-result c = search needs
 
--- src/put.rt:96:1
 same-length : tie.Need-same-length Inv-loop μ-loop
 same-length c = search needs
 
--- src/put.rt:96:1
 returns : tie.Need-returns Inv-loop μ-loop
 returns c =
     (search needs, sets-done _ _ _ _ _ (c .before .loop .inv .0) (c .loop-test .left) (c .before .loop .inv .2))

@@ -6,43 +6,31 @@ use Rattle.day_writer.proofs.WriteLaws.{day-count, day-lengths, day-som
 use borrow.Author.Needs.{needs}
 use Rattle.day_writer.proofs.write.judge_day.Statement.{statement}
 use Rattle.day_writer.proofs.write.judge_day.Tie as tie
-use Rattle.day_writer.proofs.write.judge_day.Reads as reads
-use Rattle.day_writer.proofs.write.judge_day.Lts as lts
-use Rattle.day_file.proofs.counts.DayCounts.in_range.Reads as in-range-reads
-use Rattle.day_writer.proofs.write.judge_lists.Reads as judge-lists-reads
-use Rattle.day_writer.proofs.write.lengths_keep.Reads as lengths-keep-reads
 
--- src/write.rt:76:9
 in-range-requires : tie.Need-in-range-requires
 in-range-requires c κs = search needs
 
--- src/write.rt:77:9
 returns : tie.Need-returns
 returns c =
     day-count _ _ (c .before .in-range .ensures) (not-true _ (c .if1 .taken))
 
--- src/write.rt:79:9
 lengths-keep-requires : tie.Need-lengths-keep-requires
 lengths-keep-requires c κs =
     sym (c .before .in-range .ensures) ∙ not-false _ (c .if1 .left)
 
--- src/write.rt:80:9
 returns-2 : tie.Need-returns-2
 returns-2 c =
     day-lengths _ _ (c .before .before .before .in-range .ensures) (not-false _ (c .before .before .if1 .left)) (c .before .lengths-keep .ensures) (not-true _ (c .if2 .taken))
 
--- src/write.rt:83:9
 returns-3 : tie.Need-returns-3
 returns-3 c =
     day-room _ _ (c .before .before .before .before .in-range .ensures) (not-false _ (c .before .before .before .if1 .left)) (c .before .before .lengths-keep .ensures) (not-false _ (c .before .if2 .left)) (c .if3 .taken)
 
--- src/write.rt:85:5
 judge-lists-requires : tie.Need-judge-lists-requires
 judge-lists-requires c κs =
     let s = c .before .before .before .before .before .before .before .before .before .before .before in
     day-some (day (s .args .counts) (parts (s .args .mins .now) (s .args .maxs .now) (s .args .optional .now) (s .args .levels .now) (s .args .preferences .now) (s .args .rows .now))) (s .args .room) (c .before .before .before .before .in-range .ensures) (not-false _ (c .before .before .before .if1 .left)) (c .before .before .lengths-keep .ensures) (not-false _ (c .before .if2 .left))
 
--- src/write.rt:64:1
 returns-4 : tie.Need-returns-4
 returns-4 c =
     day-lists _ _ (c .before .before .before .before .before .in-range .ensures) (not-false _ (c .before .before .before .before .if1 .left)) (c .before .before .before .lengths-keep .ensures) (not-false _ (c .before .before .if2 .left)) (c .before .if3 .left) (c .judge-lists .ensures _ _)

@@ -3,48 +3,38 @@ use native.Mathlib.Omega.{arith}
 use borrow.Author.Tests.{eq-eqb, ne-eqb}
 use Rattle.day_file.specs.Day.{lengthsKeep}
 use Rattle.day_file.proofs.CountLaws.{in-range}
-use borrow.Author.Needs.{needs}
 use Rattle.day_writer.proofs.write.lengths_keep.Statement.{statement}
 use Rattle.day_writer.proofs.write.lengths_keep.Tie as tie
-use Rattle.day_writer.proofs.write.lengths_keep.Reads as reads
-use Rattle.day_writer.proofs.write.lengths_keep.Lts as lts
 
--- src/write.rt:46:9
 returns : tie.Need-returns
 unfolding lengthsKeep
 returns c =
     rw (ne-eqb _ _ (c .if1 .taken))
 
--- src/write.rt:49:9
 returns-2 : tie.Need-returns-2
 unfolding lengthsKeep
 returns-2 c =
     rw (eq-eqb _ _ (c .before .before .if1 .left), ne-eqb _ _ (c .if2 .taken))
 
--- src/write.rt:52:9
 returns-3 : tie.Need-returns-3
 unfolding lengthsKeep
 returns-3 c =
     rw (eq-eqb _ _ (c .before .before .before .before .if1 .left), eq-eqb _ _ (c .before .before .if2 .left), ne-eqb _ _ (c .if3 .taken))
 
--- src/write.rt:55:9
 returns-4 : tie.Need-returns-4
 unfolding lengthsKeep
 returns-4 c =
     rw (eq-eqb _ _ (c .before .before .before .before .before .before .if1 .left), eq-eqb _ _ (c .before .before .before .before .if2 .left), eq-eqb _ _ (c .before .before .if3 .left), ne-eqb _ _ (c .if4 .taken))
 
--- src/write.rt:57:29
 mul-if5 : tie.Need-mul-if5
 mul-if5 c =
     let h = in-range _ (c .before .before .before .before .before .before .before .before .before .pre) .cells in record { fits = omega arith }
 
--- src/write.rt:58:9
 returns-5 : tie.Need-returns-5
 unfolding lengthsKeep
 returns-5 c =
     rw (eq-eqb _ _ (c .before .before .before .before .before .before .before .before .if1 .left), eq-eqb _ _ (c .before .before .before .before .before .before .if2 .left), eq-eqb _ _ (c .before .before .before .before .if3 .left), eq-eqb _ _ (c .before .before .if4 .left), ne-eqb _ _ (c .if5 .taken))
 
--- src/write.rt:33:1
 returns-6 : tie.Need-returns-6
 unfolding lengthsKeep
 returns-6 c =

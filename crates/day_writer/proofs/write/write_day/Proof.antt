@@ -4,20 +4,13 @@ use Rattle.day_writer.proofs.WriteLaws.{write-refused, write-asks, writ
 use borrow.Author.Needs.{needs}
 use Rattle.day_writer.proofs.write.write_day.Statement.{statement}
 use Rattle.day_writer.proofs.write.write_day.Tie as tie
-use Rattle.day_writer.proofs.write.write_day.Reads as reads
-use Rattle.day_writer.proofs.write.write_day.Lts as lts
-use Rattle.day_writer.proofs.write.judge_day.Reads as judge-day-reads
-use Rattle.day_writer.proofs.write.put_day.Reads as put-day-reads
 
--- src/write.rt:151:9
 judge-day-requires : tie.Need-judge-day-requires
 judge-day-requires c κs = search needs
 
--- src/write.rt:161:29
 enum-known-judged : tie.Need-enum-known-judged
 enum-known-judged c = search needs
 
--- src/write.rt:162:9
 returns : tie.Need-returns
 returns c =
     write-refused _ _ (c .before .before .before .judge-day .ensures) (c .before .judged .given .1)
@@ -25,7 +18,6 @@ returns c =
 enum-told : tie.Need-enum-told
 enum-told c = search needs
 
--- src/write.rt:164:20
 put-day-requires : tie.Need-put-day-requires
 put-day-requires c κs =
     let s = c .before .before .before .before .before .before .before .before .before .before .before in
@@ -33,11 +25,9 @@ put-day-requires c κs =
     let g = write-asks d (s .args .pool .now) (c .before .before .before .judge-day .ensures) (c .before .enum-told .given .1) in
     (g .counts-good, (g .lengths-good, (rows-good d (g .lists-are-good), g .room-good)))
 
--- src/write.rt:139:1
 same-length : tie.Need-same-length
 same-length c = search needs
 
--- src/write.rt:139:1
 returns-2 : tie.Need-returns-2
 returns-2 c =
     write-good _ _ (c .before .before .before .before .before .before .judge-day .ensures) (c .before .before .before .before .enum-told .given .1) (c .before .before .put-day .ensures)

@@ -4,30 +4,21 @@ use Rattle.day_file.proofs.CountLaws.{keep-rows, keep-none, keep-most}
 use borrow.Author.Needs.{needs}
 use Rattle.day_file.proofs.counts.DayCounts.in_range.Statement.{statement}
 use Rattle.day_file.proofs.counts.DayCounts.in_range.Tie as tie
-use Rattle.day_file.proofs.counts.DayCounts.in_range.Reads as reads
-use Rattle.day_file.proofs.counts.DayCounts.in_range.Lts as lts
-use Rattle.constraint.proofs.check.counts_in_range.Reads as counts-in-range-reads
-use Rattle.day_file.proofs.counts.DayCounts.for_rows.Reads as for-rows-reads
 
--- src/counts.rt:43:48
 for-rows-requires : tie.Need-for-rows-requires
 for-rows-requires c κs = search needs
 
--- src/counts.rt:43:13
 counts-in-range-requires : tie.Need-counts-in-range-requires
 counts-in-range-requires c κs = search needs
 
--- src/counts.rt:44:13
 returns : tie.Need-returns
 returns c =
     keep-rows _ (c .before .before .for-rows .ensures) (c .before .counts-in-range .ensures) (not-true _ (c .if1 .taken))
 
--- src/counts.rt:47:13
 returns-2 : tie.Need-returns-2
 returns-2 c =
     keep-none _ (c .before .before .before .before .for-rows .ensures) (c .before .before .before .counts-in-range .ensures) (not-false _ (c .before .before .if1 .left)) (c .if2 .taken)
 
--- src/counts.rt:40:5
 returns-3 : tie.Need-returns-3
 returns-3 c =
     keep-most _ (c .before .before .before .before .before .for-rows .ensures) (c .before .before .before .before .counts-in-range .ensures) (not-false _ (c .before .before .before .if1 .left)) (c .before .if2 .left)

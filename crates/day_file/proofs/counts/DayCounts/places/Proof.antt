@@ -4,55 +4,43 @@ use Rattle.day_file.proofs.CountLaws.{in-range}
 use borrow.Author.Needs.{needs}
 use Rattle.day_file.proofs.counts.DayCounts.places.Statement.{statement}
 use Rattle.day_file.proofs.counts.DayCounts.places.Tie as tie
-use Rattle.day_file.proofs.counts.DayCounts.places.Reads as reads
-use Rattle.day_file.proofs.counts.DayCounts.places.Lts as lts
 
--- src/counts.rt:57:27
 mul-levels : tie.Need-mul-levels
 mul-levels c =
     let r = in-range _ (c .before .pre) in omega arith
 
--- src/counts.rt:57:22
 add-levels : tie.Need-add-levels
 add-levels c =
     let r = in-range _ (c .before .pre) in omega arith
 
--- src/counts.rt:58:36
 mul-preferences : tie.Need-mul-preferences
 mul-preferences c =
     let r = in-range _ (c .before .before .pre) in omega arith
 
--- src/counts.rt:58:27
 add-preferences : tie.Need-add-preferences
 add-preferences c =
     let r = in-range _ (c .before .before .pre) in omega arith
 
--- src/counts.rt:59:39
 mul-rows : tie.Need-mul-rows
 mul-rows c =
     let r = in-range _ (c .before .before .before .pre) in omega arith
 
--- src/counts.rt:59:34
 mul-rows-2 : tie.Need-mul-rows-2
 mul-rows-2 c =
     let r = in-range _ (c .before .before .before .pre) in omega arith
 
--- src/counts.rt:59:20
 add-rows : tie.Need-add-rows
 add-rows c =
     let r = in-range _ (c .before .before .before .pre) in omega arith
 
--- src/counts.rt:64:25
 mul-t5 : tie.Need-mul-t5
 mul-t5 c =
     let r = in-range _ (c .before .before .before .before .pre) in omega arith
 
--- src/counts.rt:64:18
 add-t6 : tie.Need-add-t6
 add-t6 c =
     let r = in-range _ (c .before .before .before .before .pre) in omega arith
 
--- src/counts.rt:53:5
 returns : tie.Need-returns
 returns c = search needs
 
