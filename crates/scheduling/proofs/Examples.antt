@@ -8,7 +8,7 @@ use Rattle.lists.specs.Below.{one, countBelow}
 use Rattle.constraint.specs.Op.{ltOp, leqOp}
 use Rattle.constraint.specs.declared.row.Row.{Row}
 use Rattle.scheduling.specs.Plan.{slotOf, omitted, standsIn, countIn}
-use Rattle.scheduling.specs.Rows.{opHolds, offsetKept, keepsRow}
+use Rattle.scheduling.specs.Rows.{opHolds, slotsDiffer, offsetKept, keepsRow}
 
 -- a row by its columns, its extra already 32,768 higher
 abbrev row : ℕ → ℕ → ℕ → ℕ → Row
@@ -28,5 +28,5 @@ planExamples =
     ∷ []
 
 pub plan-examples : planExamples ≡ false ∷ true ∷ true ∷ false ∷ []
-unfolding keepsRow opHolds offsetKept slotOf omitted standsIn countIn countBelow one
+unfolding keepsRow opHolds slotsDiffer offsetKept slotOf omitted standsIn countIn countBelow one
 plan-examples = refl

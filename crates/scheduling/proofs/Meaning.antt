@@ -19,11 +19,10 @@ use Rattle.constraint.specs.Op.{signedOf, eqOp, gtOp, geqOp, neqOp, leqOp, ltOp
 use Rattle.constraint.specs.Row.{rowOf}
 use Rattle.constraint.specs.declared.row.Row.{Row}
 use Rattle.scheduling.specs.Day.{Day}
-use Rattle.scheduling.specs.Plan.{slotOf, omitted, standsIn, countIn, sumUpTo, sumIn}
-use Rattle.scheduling.specs.Rows.{opHolds, offsetKept, keepsRow, keepsRows}
+use Rattle.scheduling.specs.Plan.{slotOf, countIn, sumIn}
+use Rattle.scheduling.specs.Rows.{slotsDiffer, offsetKept, keepsRow, keepsRows}
 use Rattle.scheduling.specs.Feasible.{omissionAllowed, placeAllowed, placesAllowed, slotFits, feasible}
-use Rattle.scheduling.proofs.PlanLaws.{stands-omitted, stands-by}
-use Rattle.scheduling.proofs.RowLaws.{op-eq, op-neq, op-gt, op-lt, op-geq, op-leq, offset-left-out, offset-right-out, offset-both, keeps-in-slot, keeps-not-in-slot, keeps-same-slot, keeps-not-same-slot, keeps-offset-row, keeps-limited-size}
+use Rattle.scheduling.proofs.RowLaws.{op-eq, op-neq, op-gt, op-lt, op-geq, op-leq, differ-out, differ-in, offset-left-out, offset-right-out, offset-both, keeps-in-slot, keeps-not-in-slot, keeps-same-slot, keeps-not-same-slot, keeps-offset-row, keeps-limited-size}
 use Rattle.scheduling.proofs.SumLaws.{sum-fits}
 
 -- a choice stands in one of the day's slots, or is omitted and optional
@@ -101,24 +100,17 @@ sums-fit amounts plan slot h b = omega (arith, sum-fits (λ choice. getD amounts
 by-test {ℓ} : {P : Type ℓ} {b t : Bool} → b ≡ t → (t ≡ true → P) → (P → t ≡ true) → (b ≡ true) ↔ P
 by-test e f g = ((λ h. f (sym e ∙ h)), λ p. e ∙ g p)
 
-not-exactly : (b : Bool) → (not b ≡ true) ↔ (b ≡ true → ⊥)
-not-exactly true = ((λ h. absurd (false≢true h)), λ f. absurd (f refl))
-not-exactly false = ((λ h t. false≢true t), λ f. refl)
-
--- scheduled, and in this slot
-pub record Stands (plan : List ℕ) (choice slot : ℕ) : Type 0 where
-  pub is-scheduled : slotOf plan choice ≡ 255 → ⊥
-  pub there : slotOf plan choice ≡ slot
-
-pub stands-exactly : (plan : List ℕ) (choice slot : ℕ) → (standsIn plan choice slot ≡ true) ↔ Stands plan choice slot
-stands-exactly plan choice slot = (go (ℕ-discrete (slotOf plan choice) 255), back)
+-- two choices don't stand in one slot: equal bytes are 255
+pub differ-exactly : (plan : List ℕ) (left right : ℕ) → (slotsDiffer plan left right ≡ true) ↔ (slotOf plan left ≡ slotOf plan right → slotOf plan left ≡ 255)
+differ-exactly plan left right = (there (ℕ-discrete (slotOf plan left) 255), back (ℕ-discrete (slotOf plan left) 255))
   where
-    go : Dec (slotOf plan choice ≡ 255) → standsIn plan choice slot ≡ true → Stands plan choice slot
-    go (yes e) h = absurd (false≢true (sym (stands-omitted plan choice slot e) ∙ h))
-    go (no n) h = record { is-scheduled = n; there = eqb-true _ _ (sym (stands-by plan choice slot n) ∙ h) }
+    there : Dec (slotOf plan left ≡ 255) → slotsDiffer plan left right ≡ true → slotOf plan left ≡ slotOf plan right → slotOf plan left ≡ 255
+    there (yes l) h e = l
+    there (no l) h e = absurd (eqb-false _ _ (not-true _ (sym (differ-in plan left right l) ∙ h)) e)
 
-    back : Stands plan choice slot → standsIn plan choice slot ≡ true
-    back s = stands-by plan choice slot (s .is-scheduled) ∙ eq-eqb _ _ (s .there)
+    back : Dec (slotOf plan left ≡ 255) → (slotOf plan left ≡ slotOf plan right → slotOf plan left ≡ 255) → slotsDiffer plan left right ≡ true
+    back (yes l) f = differ-out plan left right l
+    back (no l) f = differ-in plan left right l ∙ ap not (ne-eqb _ _ λ e. l (f e))
 
 -- both omitted, or both scheduled and as far apart as the signed offset says
 pub data Apart (plan : List ℕ) (left right extra : ℕ) : Type 0 where
@@ -148,27 +140,23 @@ offset-exactly plan left right extra = (go (ℕ-discrete (slotOf plan left) 255)
 -- each kind in plain words
 module _ (plan : List ℕ) (row : Row) where
   -- '1: slot equals'
-  pub kind-1 : row .kind ≡ 1 → (keepsRow plan row ≡ true) ↔ Stands plan (row .left) (row .right)
-  kind-1 k = let s = stands-exactly plan (row .left) (row .right) in by-test (keeps-in-slot plan row k) (s .0) (s .1)
+  pub kind-1 : row .kind ≡ 1 → (keepsRow plan row ≡ true) ↔ (slotOf plan (row .left) ≡ row .right)
+  kind-1 k = by-test (keeps-in-slot plan row k) (eqb-true _ _) (eq-eqb _ _)
 
   -- '2: differs (omitted passes)'
-  pub kind-2 : row .kind ≡ 2 → (keepsRow plan row ≡ true) ↔ (Stands plan (row .left) (row .right) → ⊥)
-  kind-2 k =
-      let s = stands-exactly plan (row .left) (row .right) in
-      let n = not-exactly (standsIn plan (row .left) (row .right)) in
-      by-test (keeps-not-in-slot plan row k) (λ h q. n .0 h (s .1 q)) λ f. n .1 λ t. f (s .0 t)
+  pub kind-2 : row .kind ≡ 2 → (keepsRow plan row ≡ true) ↔ (slotOf plan (row .left) ≡ row .right → ⊥)
+  kind-2 k = by-test (keeps-not-in-slot plan row k) (λ h. eqb-false _ _ (not-true _ h)) λ n. ap not (ne-eqb _ _ n)
 
   -- '3: equal, both omitted passes'
   pub kind-3 : row .kind ≡ 3 → (keepsRow plan row ≡ true) ↔ (slotOf plan (row .left) ≡ slotOf plan (row .right))
   kind-3 k = by-test (keeps-same-slot plan row k) (eqb-true _ _) (eq-eqb _ _)
 
   -- '4: fails only for equal slots'
-  pub kind-4 : row .kind ≡ 4 → (keepsRow plan row ≡ true) ↔ (slotOf plan (row .left) ≡ slotOf plan (row .right) → (slotOf plan (row .left) ≡ 255 → ⊥) → ⊥)
+  pub kind-4 : row .kind ≡ 4
+      → (keepsRow plan row ≡ true) ↔ (slotOf plan (row .left) ≡ slotOf plan (row .right) → slotOf plan (row .left) ≡ 255)
   kind-4 k =
-      let s = stands-exactly plan (row .left) (slotOf plan (row .right)) in
-      let n = not-exactly (standsIn plan (row .left) (slotOf plan (row .right))) in
-      by-test (keeps-not-same-slot plan row k) (λ h e i. n .0 h (s .1 (record { is-scheduled = i; there = e })))
-      λ f. n .1 λ t. f (s .0 t .there) (s .0 t .is-scheduled)
+      let d = differ-exactly plan (row .left) (row .right) in
+      by-test (keeps-not-same-slot plan row k) (d .0) (d .1)
 
   -- '5: right slot minus left slot is the offset; both omitted passes, one omitted fails'
   pub kind-5 : row .kind ≡ 5 → (keepsRow plan row ≡ true) ↔ Apart plan (row .left) (row .right) (row .extra)

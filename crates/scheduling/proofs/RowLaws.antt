@@ -11,8 +11,8 @@ use Rattle.lists.proofs.All.{all-passes, all-fails, all-passed}
 use Rattle.constraint.specs.Op.{eqOp, gtOp, geqOp, neqOp, leqOp, ltOp}
 use Rattle.constraint.specs.Row.{rowOf}
 use Rattle.constraint.specs.declared.row.Row.{Row}
-use Rattle.scheduling.specs.Plan.{slotOf, omitted, standsIn, countIn}
-use Rattle.scheduling.specs.Rows.{opHolds, offsetKept, keepsRow, keepsRows}
+use Rattle.scheduling.specs.Plan.{slotOf, omitted, countIn}
+use Rattle.scheduling.specs.Rows.{opHolds, slotsDiffer, offsetKept, keepsRow, keepsRows}
 use Rattle.scheduling.proofs.PlanLaws.{is-omitted, not-omitted}
 
 -- the op decides the comparison
@@ -47,6 +47,16 @@ module _ (op count limit : ℕ) where
   op-other a b c d e f =
       simp (ne-eqb _ _ a, ne-eqb _ _ b, ne-eqb _ _ c, ne-eqb _ _ d, ne-eqb _ _ e, ne-eqb _ _ f)
 
+-- two choices in different slots: left omitted, or the bytes compared
+module _ (plan : List ℕ) (left right : ℕ) where
+  pub differ-out : slotOf plan left ≡ 255 → slotsDiffer plan left right ≡ true
+  unfolding slotsDiffer
+  differ-out l = rw (is-omitted plan left l)
+
+  pub differ-in : (slotOf plan left ≡ 255 → ⊥) → slotsDiffer plan left right ≡ not (eqb (slotOf plan left) (slotOf plan right))
+  unfolding slotsDiffer
+  differ-in l = rw (not-omitted plan left l)
+
 -- the offset: left omitted, right alone omitted, both scheduled
 module _ (plan : List ℕ) (left right extra : ℕ) where
   pub offset-left-out : slotOf plan left ≡ 255 → offsetKept plan left right extra ≡ eqb (slotOf plan right) 255
@@ -64,11 +74,11 @@ module _ (plan : List ℕ) (left right extra : ℕ) where
 
 -- the kind decides the sentence
 module _ (plan : List ℕ) (row : Row) where
-  pub keeps-in-slot : row .kind ≡ 1 → keepsRow plan row ≡ standsIn plan (row .left) (row .right)
+  pub keeps-in-slot : row .kind ≡ 1 → keepsRow plan row ≡ eqb (slotOf plan (row .left)) (row .right)
   unfolding keepsRow
   keeps-in-slot e = rw e
 
-  pub keeps-not-in-slot : row .kind ≡ 2 → keepsRow plan row ≡ not (standsIn plan (row .left) (row .right))
+  pub keeps-not-in-slot : row .kind ≡ 2 → keepsRow plan row ≡ not (eqb (slotOf plan (row .left)) (row .right))
   unfolding keepsRow
   keeps-not-in-slot e = rw e
 
@@ -76,7 +86,7 @@ module _ (plan : List ℕ) (row : Row) where
   unfolding keepsRow
   keeps-same-slot e = rw e
 
-  pub keeps-not-same-slot : row .kind ≡ 4 → keepsRow plan row ≡ not (standsIn plan (row .left) (slotOf plan (row .right)))
+  pub keeps-not-same-slot : row .kind ≡ 4 → keepsRow plan row ≡ slotsDiffer plan (row .left) (row .right)
   unfolding keepsRow
   keeps-not-same-slot e = rw e
 

@@ -1,6 +1,6 @@
 // 'A plan gives each choice a slot or 255 for omitted.'
 ghost use mathlib.Core.Path.{_≡_};
-ghost use Rattle.scheduling.specs.Plan.{slotOf, standsIn};
+ghost use Rattle.scheduling.specs.Plan.{slotOf};
 
 // The byte of a choice that no slot holds.
 pub const OMITTED: u8 = 255;
@@ -14,15 +14,4 @@ pub fn slot_of(plan: &[u8], choice: u16) -> u8
         return OMITTED;
     }
     plan[at]
-}
-
-// Whether a choice is scheduled, and in this slot.
-pub fn stands_in(plan: &[u8], choice: u16, slot: u16) -> bool
-    ensures { λ r. ⌜ r ≡ standsIn (now (plan .entry)) choice slot ⌝ }
-{
-    let place = slot_of(plan, choice);
-    if place == OMITTED {
-        return false;
-    }
-    place as u16 == slot
 }

@@ -1,14 +1,13 @@
 // Whether a plan keeps the rows of kinds 1 to 6, each by module 3's sentence.
 use super::plan::OMITTED;
 use super::plan::slot_of;
-use super::plan::stands_in;
 use constraint::kind::Kind;
 use constraint::op::Op;
 use constraint::row::Row;
 ghost use mathlib.Core.Path.{_≡_};
 ghost use lib.ListN.{length, getD};
 ghost use Rattle.scheduling.specs.Sums.{Sizes};
-ghost use Rattle.scheduling.specs.Rows.{offsetKept, opHolds, keepsRow, keepsRows};
+ghost use Rattle.scheduling.specs.Rows.{slotsDiffer, offsetKept, opHolds, keepsRow, keepsRows};
 
 // Kind 6's comparison: a slot's count of choices against the limit, by the op.
 pub fn op_holds(op: u16, count: u32, limit: u16) -> bool
@@ -23,6 +22,17 @@ pub fn op_holds(op: u16, count: u32, limit: u16) -> bool
         Op::LEQ => count <= limit as u32,
         _ => false,
     }
+}
+
+// Kind 4: two omitted choices stand in no slot, so they pass.
+pub fn slots_differ(plan: &[u8], left: u16, right: u16) -> bool
+    ensures { λ r. ⌜ r ≡ slotsDiffer (now (plan .entry)) left right ⌝ }
+{
+    let place = slot_of(plan, left);
+    if place == OMITTED {
+        return true;
+    }
+    place != slot_of(plan, right)
 }
 
 // Kind 5: the offset is kept 32,768 higher, so both sides are compared that much higher and need no sign.
@@ -59,14 +69,10 @@ pub(crate) fn keeps_row(row: Row, plan: &[u8], sizes: &[u32; 24]) -> bool
 {
     let kind = row.kind;
     match kind {
-        Kind::CHOICE_IS_IN_SLOT => stands_in(plan, row.left, row.right),
-        Kind::CHOICE_IS_NOT_IN_SLOT => !stands_in(plan, row.left, row.right),
+        Kind::CHOICE_IS_IN_SLOT => slot_of(plan, row.left) as u16 == row.right,
+        Kind::CHOICE_IS_NOT_IN_SLOT => slot_of(plan, row.left) as u16 != row.right,
         Kind::CHOICES_ARE_IN_SAME_SLOT => slot_of(plan, row.left) == slot_of(plan, row.right),
-        Kind::CHOICES_ARE_NOT_IN_SAME_SLOT => !stands_in(
-            plan,
-            row.left,
-            slot_of(plan, row.right) as u16,
-        ),
+        Kind::CHOICES_ARE_NOT_IN_SAME_SLOT => slots_differ(plan, row.left, row.right),
         Kind::CHOICES_HAVE_OFFSET => keeps_offset(plan, row.left, row.right, row.extra),
         Kind::SLOT_HAS_LIMITED_SIZE => op_holds(row.extra, size_of(sizes, row.left), row.right),
         _ => false,

@@ -1,35 +1,32 @@
 -- Each kind's arm is its sentence; past them all, no plan keeps the row.
 use mathlib.Core.Path.{_≡_, sym, _∙_, ap}
-use mathlib.Core.Bool.{Bool, not}
 use Prim.Native.Nat.{ℕ}
-use lib.Dec.{eqb}
-use Rattle.scheduling.specs.Plan.{standsIn}
 use Rattle.scheduling.specs.Rows.{opHolds}
 use Rattle.scheduling.proofs.RowLaws.{keeps-in-slot, keeps-not-in-slot, keeps-same-slot, keeps-not-same-slot, keeps-offset-row, keeps-limited-size, keeps-no-other}
 use borrow.Author.Needs.{needs}
 use Rattle.scheduling.proofs.rows.keeps_row.Statement.{statement}
 use Rattle.scheduling.proofs.rows.keeps_row.Tie as tie
 
-stands-in-requires : tie.Need-stands-in-requires
-stands-in-requires c κs = search needs
-
-stands-in-requires-2 : tie.Need-stands-in-requires-2
-stands-in-requires-2 c κs = search needs
-
 slot-of-requires : tie.Need-slot-of-requires
 slot-of-requires c κs = search needs
+
+cast-result : tie.Need-cast-result
+cast-result c = search needs
 
 slot-of-requires-2 : tie.Need-slot-of-requires-2
 slot-of-requires-2 c κs = search needs
 
+cast-result-2 : tie.Need-cast-result-2
+cast-result-2 c = search needs
+
 slot-of-requires-3 : tie.Need-slot-of-requires-3
 slot-of-requires-3 c κs = search needs
 
-cast-stands-in : tie.Need-cast-stands-in
-cast-stands-in c = search needs
+slot-of-requires-4 : tie.Need-slot-of-requires-4
+slot-of-requires-4 c κs = search needs
 
-stands-in-requires-3 : tie.Need-stands-in-requires-3
-stands-in-requires-3 c κs = search needs
+slots-differ-requires : tie.Need-slots-differ-requires
+slots-differ-requires c κs = search needs
 
 keeps-offset-requires : tie.Need-keeps-offset-requires
 keeps-offset-requires c κs = search needs
@@ -42,20 +39,19 @@ op-holds-requires c κs = search needs
 
 returns : tie.Need-returns
 returns c =
-    c .stands-in .ensures ∙ sym (keeps-in-slot _ _ (c .before .match .keys1))
+    rw (c .before .slot-of .ensures) (sym (keeps-in-slot _ _ (c .before .before .match .keys1)))
 
 returns-2 : tie.Need-returns-2
 returns-2 c =
-    ap not (c .stands-in2 .ensures) ∙ sym (keeps-not-in-slot _ _ (c .before .match .keys2))
+    rw (c .before .slot-of2 .ensures) (sym (keeps-not-in-slot _ _ (c .before .before .match .keys2)))
 
 returns-3 : tie.Need-returns-3
 returns-3 c =
-    rw (c .before .slot-of .ensures, c .slot-of2 .ensures) (sym (keeps-same-slot _ _ (c .before .before .match .keys3)))
+    rw (c .before .slot-of3 .ensures, c .slot-of4 .ensures) (sym (keeps-same-slot _ _ (c .before .before .match .keys3)))
 
 returns-4 : tie.Need-returns-4
 returns-4 c =
-    let row = c .before .before .before .before .args .row in
-    ap not (c .stands-in3 .ensures ∙ ap (λ (x : ℕ). standsIn (c .before .before .before .before .args .plan .now) (row .left) x) (c .before .slot-of3 .ensures)) ∙ sym (keeps-not-same-slot _ _ (c .before .before .match .keys4))
+    c .slots-differ .ensures ∙ sym (keeps-not-same-slot _ _ (c .before .match .keys4))
 
 returns-5 : tie.Need-returns-5
 returns-5 c =
@@ -75,13 +71,13 @@ pub keeps-row-spec : {M : Type 1} → statement M
 keeps-row-spec =
     tie.close
     (tie.spec
-    stands-in-requires
-    stands-in-requires-2
     slot-of-requires
+    cast-result
     slot-of-requires-2
+    cast-result-2
     slot-of-requires-3
-    cast-stands-in
-    stands-in-requires-3
+    slot-of-requires-4
+    slots-differ-requires
     keeps-offset-requires
     size-of-requires
     op-holds-requires

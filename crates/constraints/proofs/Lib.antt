@@ -1,0 +1,9 @@
+pub mod Turning
+pub mod Pairing
+pub mod Copying
+pub mod Joining
+pub mod Bounds
+pub mod Filling
+pub mod Calling
+pub mod Result
+pub mod Examples

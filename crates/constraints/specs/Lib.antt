@@ -1,0 +1,7 @@
+pub mod Free
+pub mod Turn
+pub mod Groups
+pub mod Pairs
+pub mod Copies
+pub mod Reduction
+pub mod Expand

@@ -1,0 +1,68 @@
+// The reduction of a day's given rows (module 2): rows turned, rows that follow added, all sorted with equal ones once.
+use constraint::check;
+use constraint::check::Checked;
+use constraint::check::Counts;
+use constraint::check::Takes;
+use constraint::refusal::Refusal;
+ghost use mathlib.Core.Path.{_≡_};
+ghost use lib.ListN.{length};
+ghost use Rattle.constraints.specs.Reduction.{tells, left, reductionOf, reduceOf};
+ghost use Rattle.constraints.specs.Expand.{Given};
+
+pub mod copies;
+pub mod expand;
+pub mod free;
+pub mod groups;
+pub mod pairs;
+pub mod turn;
+
+// The most rows that a reduction may have before equal ones are dropped, and the length of the pool lent for them.
+pub const MOST_ROWS: usize = 1024;
+
+// What a reduction hands back beside the pool: how many rows it holds, and whether two slots that must agree differ.
+pub struct Reduction {
+    pub count: usize,
+    pub clash: bool,
+}
+
+// What reduce answers.
+pub enum Reduced {
+    Rows(Reduction),
+    Refused(Refusal),
+}
+
+// The reduced rows of a day into the pool: 1, then 2, then 5 with the first bad row, then 6.
+pub fn reduce(counts: Counts, rows: &[u64], pool: &mut [u64]) -> Reduced
+    ensures { λ r. ⌜ left (tells r) (now (pool .exit)) ≡ reduceOf counts (now (rows .entry)) (now (pool .entry)) ⌝ }
+{
+    if !check::counts_in_range(counts, Takes::All) {
+        return Reduced::Refused(Refusal::Count);
+    }
+    if rows.len() != counts.rows {
+        return Reduced::Refused(Refusal::Length);
+    }
+    if pool.len() != MOST_ROWS {
+        return Reduced::Refused(Refusal::Length);
+    }
+    let checked = check::check_each_row(counts, Takes::All, rows);
+    match checked {
+        Checked::Good => reduce_rows(counts, rows, pool),
+        Checked::Refused(refusal) => Reduced::Refused(refusal),
+    }
+}
+
+// The reduction of rows that keep the table: all rows written, then sorted with equal ones once.
+fn reduce_rows(counts: Counts, rows: &[u64], pool: &mut [u64]) -> Reduced
+    requires { ⌜ Given counts (length (now rows)) (length (now pool)) ⌝ }
+    ensures { λ r. ⌜ left (tells r) (now (pool .exit)) ≡ reductionOf counts (now (rows .entry)) ⌝ }
+{
+    let total = expand::expand(counts, rows, pool);
+    if total > MOST_ROWS {
+        sorted_rows::clear(pool);
+        return Reduced::Refused(Refusal::TooMany);
+    }
+    let count = sorted_rows::sort_unique(&mut pool[..total]);
+    sorted_rows::clear(&mut pool[total..]);
+    let clash = turn::clashes(rows);
+    Reduced::Rows(Reduction { count, clash })
+}

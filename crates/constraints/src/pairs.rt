@@ -1,0 +1,124 @@
+// 'A kind 4 row for each pair i < j of positions in each same-choosers group, and in each chooser's list of kind 11 choices.'
+use super::free;
+use super::groups;
+use constraint::kind::Kind;
+use constraint::number::Choice;
+use constraint::row::Row;
+ghost use mathlib.Core.Path.{_≡_};
+ghost use mathlib.Core.List.{map};
+ghost use Prim.Native.Nat.{_+_, _≤_};
+ghost use lib.ListN.{length};
+ghost use Rattle.lists.specs.Cut.{cutAt, EndsFit};
+ghost use Rattle.constraints.specs.Free.{Wrote, Countable};
+ghost use Rattle.constraints.specs.Pairs.{pairRow, pairsOf, groupPairs, mandatoryOne, mandatory, mandatoryPairs};
+
+// The kind 4 row of two choices, the earlier position left.
+fn pair_row(left: u16, right: u16) -> u64
+    ensures { λ r. ⌜ r ≡ pairRow left right ⌝ }
+{
+    Row::choice_choice(
+        Kind::CHOICES_ARE_NOT_IN_SAME_SLOT,
+        Choice(left),
+        Choice(right),
+    ).number()
+}
+
+// Writes the pairs of one choice with each of a list; the answer is the place after them.
+fn pairs_with(left: u16, list: &[u16], free: &mut [u64], from: usize) -> usize
+    requires { ⌜ Countable from (map (pairRow left) (now list)) ⌝ }
+    ensures { λ r. ⌜ Wrote (now (free .entry)) from (map (pairRow left) (now (list .entry))) r (now (free .exit)) ⌝ }
+{
+    let mut at = from;
+    let mut j = 0;
+    while j < list.len() {
+        free::put(free, at, pair_row(left, list[j]));
+        at += 1;
+        j += 1;
+    }
+    at
+}
+
+// Writes the pairs of a list, each position with those after it; the answer is the place after them.
+fn pairs_of(list: &[u16], free: &mut [u64], from: usize) -> usize
+    requires { ⌜ Countable from (pairsOf (now list)) ⌝ }
+    ensures { λ r. ⌜ Wrote (now (free .entry)) from (pairsOf (now (list .entry))) r (now (free .exit)) ⌝ }
+{
+    let mut at = from;
+    let mut i = 0;
+    while i < list.len() {
+        let left = list[i];
+        i += 1;
+        at = pairs_with(left, &list[i..], free, at);
+    }
+    at
+}
+
+// Writes the pairs of each group; the answer is how many they are.
+pub(crate) fn group_pairs(members: &[u16], ends: &[u8], free: &mut [u64]) -> usize
+    requires { ⌜ EndsFit 0 (now ends) (length (now members)) × Countable 0 (groupPairs (cutAt 0 (now ends) (now members))) ⌝ }
+    ensures { λ r. ⌜ Wrote (now (free .entry)) 0 (groupPairs (cutAt 0 (now (ends .entry)) (now (members .entry)))) r (now (free .exit)) ⌝ }
+{
+    let mut at = 0;
+    let mut start = 0;
+    let mut i = 0;
+    while i < ends.len() {
+        let end = groups::wide(ends[i]);
+        at = pairs_of(&members[start..end], free, at);
+        start = end;
+        i += 1;
+    }
+    at
+}
+
+// Writes the choice of a row into a chooser's list, if it is of kind 11 and the chooser's; the answer is the place after it.
+fn list_one(number: u64, chooser: usize, list: &mut [u16], at: usize) -> usize
+    requires { ⌜ at + length (mandatoryOne chooser number) ≤ length (now list) ⌝ }
+    ensures { λ r. ⌜ Wrote (now (list .entry)) at (mandatoryOne chooser number) r (now (list .exit)) ⌝ }
+{
+    let row = Row::of(number);
+    if row.kind != Kind::CHOOSER_IS_IN_CHOICE {
+        return at;
+    }
+    if (row.left as usize) != chooser {
+        return at;
+    }
+    list[at] = row.right;
+    at + 1
+}
+
+// 'Each chooser's list of kind 11 choices in given order, duplicates kept'; the answer is how many they are.
+fn mandatory(rows: &[u64], chooser: usize, list: &mut [u16]) -> usize
+    requires { ⌜ length (now rows) ≤ length (now list) ⌝ }
+    ensures { λ r. ⌜ Wrote (now (list .entry)) 0 (mandatory (now (rows .entry)) chooser) r (now (list .exit)) ⌝ }
+{
+    let mut at = 0;
+    let mut i = 0;
+    while i < rows.len() {
+        at = list_one(rows[i], chooser, list, at);
+        i += 1;
+    }
+    at
+}
+
+// Room for the choices of all given rows.
+fn no_choices() -> [u16; 128]
+    ensures { λ r. ⌜ 128 ≡ length r ⌝ }
+{
+    [0u16; 128]
+}
+
+// Writes the pairs of each chooser's list; the answer is how many they are.
+pub(crate) fn mandatory_pairs(choosers: usize, rows: &[u64], free: &mut [u64]) -> usize
+    requires { ⌜ (length (now rows) ≤ 128) × Countable 0 (mandatoryPairs (now rows) choosers) ⌝ }
+    ensures { λ r. ⌜ Wrote (now (free .entry)) 0 (mandatoryPairs (now (rows .entry)) choosers) r (now (free .exit)) ⌝ }
+{
+    let mut list = no_choices();
+    let mut at = 0;
+    let mut chooser = 0;
+    while chooser < choosers {
+        let count = mandatory(rows, chooser, &mut list);
+        at = pairs_of(&list[..count], free, at);
+        chooser += 1;
+    }
+    at
+}
