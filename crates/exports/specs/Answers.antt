@@ -1,9 +1,11 @@
 -- What crosses the boundary to other languages: counts as numbers, answers as numbers.
 use mathlib.Core.List.{List}
+use mathlib.Core.Bool.{true, false}
 use Prim.Native.Nat.{ℕ, _+_}
 use lib.ListN.{length}
 use Rattle.constraint.specs.Refusal.{numberOf}
 use Rattle.constraint.specs.declared.check.Counts.{Counts}
+use Rattle.constraints.specs.Reduction.{Outcome, done, refused, Left}
 use Rattle.day_file.specs.Calls.{Reading}
 use Rattle.day_file.specs.Day.{Parts}
 use Rattle.day_file.specs.declared.read.Read.{Read}
@@ -38,3 +40,21 @@ told number pools = record { number = number; pools = pools }
 -- what the reader answers and leaves, by its number
 abbrev pub numbered : Reading → Told
 numbered reading = told (readNumber (reading .answer)) (reading .pools)
+
+-- the reduction's answer: how many rows, 65,536 for a clash, 100,000 more than a refusal's number
+abbrev pub reducedNumber : Outcome → ℕ
+reducedNumber (done count true) = 65536
+reducedNumber (done count false) = count
+reducedNumber (refused number carried) = 100000 + number
+
+-- a number handed back, and the pool of rows at exit
+pub record ToldRows : Type 0 where
+  pub number : ℕ
+  pub pool : List ℕ
+
+abbrev pub toldRows : ℕ → List ℕ → ToldRows
+toldRows number pool = record { number = number; pool = pool }
+
+-- what the reduction answers and leaves, by its number
+abbrev pub numberedRows : Left → ToldRows
+numberedRows left = toldRows (reducedNumber (left .answer)) (left .pool)
