@@ -9,7 +9,7 @@ use crate::{Constraint, constraints, rows};
 const MOST_ROWS: usize = 1_024;
 
 unsafe extern "C" {
-    /// The number of rows and, 65,536 higher, the clash flag; or 2^32 more than a refusal's number.
+    /// How many rows the pool holds; 65,536 for a clash; 100,000 more than a refusal's number.
     fn thalluscrest_reduce(
         choices: usize,
         slots: usize,
@@ -82,9 +82,9 @@ fn rust_answer(case: &mut Case) -> Vec<u64> {
 }
 
 fn rattle_answer(case: &mut Case) -> Vec<u64> {
-    let number = rattle_reduce(case);
-    let count = usize::try_from(number % 65_536).expect("a count is small");
-    let mut answer = vec![number / 65_536];
+    let count = usize::try_from(rattle_reduce(case)).expect("an answer is small");
+    assert!(count <= MOST_ROWS, "the rows neither clash nor are refused");
+    let mut answer = vec![0];
     answer.extend(&case.pool[..count]);
     answer
 }

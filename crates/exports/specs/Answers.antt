@@ -1,9 +1,15 @@
 -- What crosses the boundary to other languages: counts as numbers, answers as numbers.
 use mathlib.Core.List.{List}
+use mathlib.Core.Bool.{true, false}
 use Prim.Native.Nat.{ℕ, _+_}
 use lib.ListN.{length}
 use Rattle.constraint.specs.Refusal.{numberOf}
 use Rattle.constraint.specs.declared.check.Counts.{Counts}
+use Rattle.constraints.specs.Reduction.{Outcome, done, refused, Left}
+use Rattle.day_file.specs.Calls.{Reading}
+use Rattle.day_file.specs.Day.{Parts}
+use Rattle.day_file.specs.declared.read.Read.{Read}
+use Rattle.day_file.specs.declared.read.Read.the-variants as read
 use Rattle.scheduling.specs.declared.plan_check.PlanChecked.{PlanChecked}
 use Rattle.scheduling.specs.declared.plan_check.PlanChecked.the-variants.{Feasible, Infeasible, Refused}
 
@@ -17,3 +23,38 @@ abbrev pub planNumber : PlanChecked → ℕ
 planNumber Infeasible = 0
 planNumber Feasible = 1
 planNumber (Refused why) = 100 + numberOf why
+
+-- the reader's answer: 0 for a day, else the refusal's number
+abbrev pub readNumber : Read → ℕ
+readNumber (read.Day counts) = 0
+readNumber (read.Refused why) = numberOf why
+
+-- a number handed back, and the pools at exit
+pub record Told : Type 0 where
+  pub number : ℕ
+  pub pools : Parts
+
+abbrev pub told : ℕ → Parts → Told
+told number pools = record { number = number; pools = pools }
+
+-- what the reader answers and leaves, by its number
+abbrev pub numbered : Reading → Told
+numbered reading = told (readNumber (reading .answer)) (reading .pools)
+
+-- the reduction's answer: how many rows, 65,536 for a clash, 100,000 more than a refusal's number
+abbrev pub reducedNumber : Outcome → ℕ
+reducedNumber (done count true) = 65536
+reducedNumber (done count false) = count
+reducedNumber (refused number carried) = 100000 + number
+
+-- a number handed back, and the pool of rows at exit
+pub record ToldRows : Type 0 where
+  pub number : ℕ
+  pub pool : List ℕ
+
+abbrev pub toldRows : ℕ → List ℕ → ToldRows
+toldRows number pool = record { number = number; pool = pool }
+
+-- what the reduction answers and leaves, by its number
+abbrev pub numberedRows : Left → ToldRows
+numberedRows left = toldRows (reducedNumber (left .answer)) (left .pool)

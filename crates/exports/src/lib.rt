@@ -1,5 +1,10 @@
 // What programs in other languages call: numbers and slices alone, each call one of the library's.
 use constraint::check::Counts;
+use constraints::Reduced;
+use constraints::Reduction;
+use constraints::reduce;
+use day_file::read::Read;
+use day_file::read::read_day;
 use scheduling::feasible::is_feasible;
 use scheduling::plan_check::PlanChecked;
 use scheduling::plan_check::check_plan;
@@ -7,7 +12,10 @@ ghost use mathlib.Core.Path.{_≡_};
 ghost use Rattle.scheduling.specs.Day.{dayOf};
 ghost use Rattle.scheduling.specs.Feasible.{isFeasible};
 ghost use Rattle.scheduling.specs.Check.{planCheckOf};
-ghost use Rattle.exports.specs.Answers.{countsOf, planNumber};
+ghost use Rattle.day_file.specs.Day.{parts};
+ghost use Rattle.day_file.specs.Calls.{readOf};
+ghost use Rattle.constraints.specs.Reduction.{tells, done, reduceOf};
+ghost use Rattle.exports.specs.Answers.{countsOf, planNumber, readNumber, told, numbered, reducedNumber, toldRows, numberedRows};
 
 // The plan check's answer as a number: 0 not feasible, 1 feasible, 100 more than a refusal's number.
 fn plan_number(answer: PlanChecked) -> u16
@@ -64,4 +72,70 @@ pub extern "C" fn thalluscrest_check_plan(
         rows: rows.len(),
     };
     plan_number(check_plan(counts, mins, maxs, optional, rows, plan))
+}
+
+// The reader's answer as a number: 0 for a day, which stands in the pools, else the refusal's number.
+fn read_number(answer: Read) -> u8
+    ensures { λ r. ⌜ r ≡ readNumber answer ⌝ }
+{
+    match answer {
+        Read::Day(_) => 0,
+        Read::Refused(why) => why.number(),
+    }
+}
+
+// Reads a day file into pools lent at their full limits: 0, or the number of a refusal. The counts stand in the file's head.
+#[no_mangle]
+pub extern "C" fn thalluscrest_read_day(
+    file: &[u8],
+    mins: &mut [u16],
+    maxs: &mut [u16],
+    optional: &mut [u8],
+    levels: &mut [u16],
+    preferences: &mut [u16],
+    rows: &mut [u64],
+) -> u8
+    ensures { λ r. ⌜ told r (parts (now (mins .exit)) (now (maxs .exit)) (now (optional .exit)) (now (levels .exit)) (now (preferences .exit)) (now (rows .exit))) ≡ numbered (readOf (now (file .entry)) (parts (now (mins .entry)) (now (maxs .entry)) (now (optional .entry)) (now (levels .entry)) (now (preferences .entry)) (now (rows .entry)))) ⌝ }
+{
+    read_number(read_day(file, mins, maxs, optional, levels, preferences, rows))
+}
+
+// The number of rows of a reduction, or 65,536 for a clash, after which no row is asked for.
+fn rows_number(reduction: Reduction) -> u64
+    ensures { λ r. ⌜ r ≡ reducedNumber (done (reduction .count) (reduction .clash)) ⌝ }
+{
+    if reduction.clash {
+        return 65_536;
+    }
+    reduction.count as u64
+}
+
+// The reduction's answer as a number: the rows, 65,536 for a clash, 100,000 more than a refusal's number.
+fn reduced_number(answer: Reduced) -> u64
+    ensures { λ r. ⌜ r ≡ reducedNumber (tells answer) ⌝ }
+{
+    match answer {
+        Reduced::Rows(reduction) => rows_number(reduction),
+        Reduced::Refused(why) => 100_000 + why.number() as u64,
+    }
+}
+
+// Reduces given rows into a pool of 1,024: how many it holds, 65,536 for a clash, 100,000 more than the number of a refusal.
+#[no_mangle]
+pub extern "C" fn thalluscrest_reduce(
+    choices: usize,
+    slots: usize,
+    choosers: usize,
+    rows: &[u64],
+    pool: &mut [u64],
+) -> u64
+    ensures { λ r. ⌜ toldRows r (now (pool .exit)) ≡ numberedRows (reduceOf (countsOf choices slots choosers (now (rows .entry))) (now (rows .entry)) (now (pool .entry))) ⌝ }
+{
+    let counts = Counts {
+        choices,
+        slots,
+        choosers,
+        rows: rows.len(),
+    };
+    reduced_number(reduce(counts, rows, pool))
 }
