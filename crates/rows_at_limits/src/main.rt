@@ -164,13 +164,7 @@ fn value_text(column: usize, value: u16) {
 // One value of one column, as the second row of two.
 fn answer_at(takes: usize, kind: u16, column: usize, value: u16) {
     let rows = [good_row(takes), probe(kind, column, value)];
-    let counts = Counts {
-        choices: 64,
-        slots: 24,
-        choosers: 200,
-        rows: 2,
-    };
-    answer_text(check_rows(counts, takes_of(takes), &rows));
+    answer_text(check_rows(counts_of(64, 24, 200, 2), takes_of(takes), &rows));
 }
 
 // A line: one column of one kind at all its values.
@@ -213,142 +207,46 @@ fn counts_text(takes: usize, counts: Counts) {
     text(b" lent ");
 }
 
+fn counts_of(choices: usize, slots: usize, choosers: usize, rows: usize) -> Counts {
+    Counts {
+        choices,
+        slots,
+        choosers,
+        rows,
+    }
+}
+
+// Each count at its limit and one over.
+fn counts_at_limits(takes: usize, rows: &[u64]) {
+    counted(takes, counts_of(64, 24, 200, 2), 2, rows);
+    counted(takes, counts_of(65, 24, 200, 2), 2, rows);
+    counted(takes, counts_of(64, 25, 200, 2), 2, rows);
+    counted(takes, counts_of(64, 24, 201, 2), 2, rows);
+}
+
+// The rows at their limit and one over.
+fn rows_at_limit(takes: usize, most: usize, rows: &[u64]) {
+    counted(takes, counts_of(64, 24, 200, most), most, rows);
+    if most < 1025 {
+        counted(takes, counts_of(64, 24, 200, most + 1), most + 1, rows);
+    }
+}
+
+// A length that isn't the count's, 1 before 2, and 2 before 5.
+fn lengths_apart(takes: usize, rows: &[u64]) {
+    counted(takes, counts_of(64, 24, 200, 2), 1, rows);
+    counted(takes, counts_of(64, 24, 200, 2), 3, rows);
+    counted(takes, counts_of(65, 24, 200, 2), 3, rows);
+    counted(takes, counts_of(0, 0, 0, 2), 3, rows);
+    counted(takes, counts_of(0, 0, 0, 2), 2, rows);
+    counted(takes, counts_of(0, 0, 0, 0), 0, rows);
+}
+
 fn limits(takes: usize, most: usize) {
     let rows = [good_row(takes); 1025];
-    counted(
-        takes,
-        Counts {
-            choices: 64,
-            slots: 24,
-            choosers: 200,
-            rows: 2,
-        },
-        2,
-        &rows,
-    );
-    counted(
-        takes,
-        Counts {
-            choices: 65,
-            slots: 24,
-            choosers: 200,
-            rows: 2,
-        },
-        2,
-        &rows,
-    );
-    counted(
-        takes,
-        Counts {
-            choices: 64,
-            slots: 25,
-            choosers: 200,
-            rows: 2,
-        },
-        2,
-        &rows,
-    );
-    counted(
-        takes,
-        Counts {
-            choices: 64,
-            slots: 24,
-            choosers: 201,
-            rows: 2,
-        },
-        2,
-        &rows,
-    );
-    counted(
-        takes,
-        Counts {
-            choices: 64,
-            slots: 24,
-            choosers: 200,
-            rows: most,
-        },
-        most,
-        &rows,
-    );
-    if most < 1025 {
-        counted(
-            takes,
-            Counts {
-                choices: 64,
-                slots: 24,
-                choosers: 200,
-                rows: most + 1,
-            },
-            most + 1,
-            &rows,
-        );
-    }
-    counted(
-        takes,
-        Counts {
-            choices: 64,
-            slots: 24,
-            choosers: 200,
-            rows: 2,
-        },
-        1,
-        &rows,
-    );
-    counted(
-        takes,
-        Counts {
-            choices: 64,
-            slots: 24,
-            choosers: 200,
-            rows: 2,
-        },
-        3,
-        &rows,
-    );
-    counted(
-        takes,
-        Counts {
-            choices: 65,
-            slots: 24,
-            choosers: 200,
-            rows: 2,
-        },
-        3,
-        &rows,
-    );
-    counted(
-        takes,
-        Counts {
-            choices: 0,
-            slots: 0,
-            choosers: 0,
-            rows: 2,
-        },
-        3,
-        &rows,
-    );
-    counted(
-        takes,
-        Counts {
-            choices: 0,
-            slots: 0,
-            choosers: 0,
-            rows: 2,
-        },
-        2,
-        &rows,
-    );
-    counted(
-        takes,
-        Counts {
-            choices: 0,
-            slots: 0,
-            choosers: 0,
-            rows: 0,
-        },
-        0,
-        &rows,
-    );
+    counts_at_limits(takes, &rows);
+    rows_at_limit(takes, most, &rows);
+    lengths_apart(takes, &rows);
 }
 
 fn main() {
