@@ -20,7 +20,7 @@ use Rattle.constraint.specs.declared.kind.Columns.{Columns}
 use Rattle.constraint.specs.declared.check.Counts.{Counts}
 use Rattle.constraint.specs.declared.check.Takes.the-variants as takes
 use Rattle.constraint.proofs.KindLaws.{takes-all}
-use Rattle.constraint.proofs.KeptLaws.{Kept, kept}
+use Rattle.constraint.proofs.KeptLaws.{kept}
 
 -- every line of the table but the refused ones names a choice, a slot or a chooser on the left
 abbrev isNumber : Name → Bool

@@ -1,19 +1,17 @@
 -- A good file is the file of its day, byte for byte.
-use mathlib.Core.Path.{_≡_, refl, sym, _∙_, ap, ap₂}
+use mathlib.Core.Path.{_≡_, sym, _∙_, ap}
 use mathlib.Core.List.{List, [], _∷_, _++_}
-use Prim.Native.Nat.{ℕ, suc, _+_, _*_, _-_, _/_, _%_, _^_, _≤_, _<_}
-use native.Mathlib.Nat.{add-zero}
+use Prim.Native.Nat.{ℕ, suc, _+_, _*_, _-_, _/_, _%_, _≤_, _<_}
 use native.Mathlib.Numerals.{add-one}
 use native.Mathlib.Omega.{arith}
-use lib.ListN.{length, getD, take, drop}
+use lib.ListN.{length, getD, take}
 use lib.Seq.{drop-cons}
 use Rattle.lists.specs.Flat.{listBelow, joinBelow}
 use Rattle.lists.specs.Pool.{window}
 use Rattle.lists.proofs.Flat.{length-list, getD-list, window-split, window-all, join-windows}
-use Rattle.constraint.specs.Row.{rowOf, rowNumber}
 use Rattle.constraint.specs.declared.row.Row.{Row}
 use Rattle.constraint.proofs.RowLaws.{Fits, row-of-number}
-use Rattle.day_file.specs.Day.{Parts, parts, Day, day}
+use Rattle.day_file.specs.Day.{day}
 use Rattle.day_file.specs.File.{word, wordAt, turned, rowBytes, rowAt, placesOf, headBytes, lengthIn, versionIn, countsIn, choiceBytes, bytesOf, listsIn, dayIn}
 use Rattle.day_file.specs.declared.counts.DayCounts.{DayCounts}
 use Rattle.day_file.proofs.ReadLaws.{Head}

@@ -1,19 +1,18 @@
 -- Days and files: every day's file reads as that day, every good file is the file of a day, and no two days have one file.
 use mathlib.Core.Path.{_≡_, refl, sym, _∙_, ap}
-use mathlib.Core.Bool.{Bool, true, false, _&&_, false≢true}
-use mathlib.Core.List.{List, [], _∷_}
-use Prim.Native.Nat.{ℕ, _+_, _*_, _-_, _≤_, _<_}
+use mathlib.Core.Bool.{true, false, _&&_, false≢true}
+use mathlib.Core.List.{List}
+use Prim.Native.Nat.{ℕ, _+_, _*_, _-_, _≤_}
 use native.Mathlib.Omega.{arith}
-use borrow.Author.Tests.{le-leb, eq-eqb, leb-true}
-use lib.Dec.{leb, eqb}
-use lib.ListN.{length, getD}
-use Rattle.lists.specs.Below.{allBelow}
+use borrow.Author.Tests.{le-leb, eq-eqb}
+use lib.Dec.{leb}
+use lib.ListN.{length}
 use Rattle.lists.specs.Flat.{listBelow}
 use Rattle.lists.proofs.Below.{and-left, and-right, each-all}
 use Rattle.lists.proofs.Flat.{length-list}
 use Rattle.constraint.specs.declared.check.Checked.{Checked}
 use Rattle.constraint.specs.declared.check.Checked.the-variants.{Good, Refused}
-use Rattle.day_file.specs.Day.{Parts, Day, day, countsKeep, lengthsKeep, levelsRise, lastLevel, allAtMost, rowsJudged, isGood, isDay, poolsFull, padded}
+use Rattle.day_file.specs.Day.{Parts, Day, countsKeep, lengthsKeep, levelsRise, lastLevel, allAtMost, rowsJudged, isGood, isDay, poolsFull, padded}
 use Rattle.day_file.specs.File.{wordAt, placesOf, countsIn, listsIn, dayIn, bytesOf}
 use Rattle.day_file.specs.Calls.{andThen, headJudged, bodyJudged, fileJudged, reading, readOf}
 use Rattle.day_file.specs.declared.counts.DayCounts.{DayCounts}

@@ -1,8 +1,8 @@
 -- The bytes of a day: how many they are, part by part.
-use mathlib.Core.Path.{_≡_, refl, sym, _∙_, ap}
-use mathlib.Core.Bool.{Bool, true, false, _&&_}
-use mathlib.Core.List.{List, [], _∷_, _++_}
-use Prim.Native.Nat.{ℕ, _+_, _*_, _-_, _≤_, _<_}
+use mathlib.Core.Path.{_≡_, refl}
+use mathlib.Core.Bool.{true, _&&_}
+use mathlib.Core.List.{List}
+use Prim.Native.Nat.{ℕ, _*_, _≤_}
 use native.Mathlib.Omega.{arith}
 use borrow.Author.Tests.{eqb-true}
 use lib.Dec.{eqb}
@@ -10,7 +10,7 @@ use lib.ListN.{length, getD, length-append}
 use Rattle.lists.specs.Flat.{joinBelow}
 use Rattle.lists.proofs.Below.{and-left, and-right}
 use Rattle.lists.proofs.Flat.{length-join}
-use Rattle.day_file.specs.Day.{Parts, Day, day, lengthsKeep}
+use Rattle.day_file.specs.Day.{Parts, day, lengthsKeep}
 use Rattle.day_file.specs.File.{word, rowBytes, headBytes, choiceBytes, bytesOf, placesOf}
 use Rattle.day_file.specs.declared.counts.DayCounts.{DayCounts}
 use Rattle.day_file.proofs.CountLaws.{InRange}

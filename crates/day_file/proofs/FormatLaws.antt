@@ -1,23 +1,20 @@
 -- A day and its file: each comes back from the other. The laws of windows and joined records hold for records of any width.
 use mathlib.Core.Path.{_≡_, refl, sym, _∙_, ap}
 use mathlib.Core.List.{List, [], _∷_, _++_, append-nil}
-use Prim.Native.Nat.{ℕ, suc, _+_, _*_, _-_, _/_, _%_, _^_, _≤_, _<_}
+use Prim.Native.Nat.{ℕ, _+_, _*_, _-_, _/_, _%_, _<_}
 use native.Mathlib.Nat.{add-zero}
-use native.Mathlib.Numerals.{add-one}
 use native.Mathlib.Omega.{arith}
-use lib.ListN.{length, getD, take, drop}
-use lib.Seq.{getD-take, getD-drop, drop-cons}
-use Rattle.lists.specs.Flat.{listBelow, joinBelow}
+use lib.ListN.{length, getD, drop}
+use lib.Seq.{getD-take, getD-drop}
+use Rattle.lists.specs.Flat.{joinBelow}
 use Rattle.lists.specs.Pool.{window}
-use Rattle.lists.proofs.Flat.{length-list, getD-list, list-ext, list-back, window-split, window-all, window-skip, window-join, join-windows}
+use Rattle.lists.proofs.Flat.{list-ext, list-back, window-skip, window-join}
 use Rattle.constraint.specs.Row.{rowOf, rowNumber}
-use Rattle.constraint.specs.declared.row.Row.{Row}
-use Rattle.constraint.proofs.RowLaws.{number-of-row, row-of-number, row-fits}
+use Rattle.constraint.proofs.RowLaws.{number-of-row, row-fits}
 use Rattle.day_file.specs.Day.{Parts, parts, Day, day}
 use Rattle.day_file.specs.File.{word, wordAt, turned, rowBytes, rowAt, placesOf, headBytes, lengthIn, versionIn, countsIn, choiceBytes, bytesOf, listsIn, dayIn}
 use Rattle.day_file.specs.declared.counts.DayCounts.{DayCounts}
-use Rattle.day_file.proofs.FileLaws.{Lengths, length-word, length-row, length-choice, length-head, length-choices, length-words, length-rows, length-bytes}
-use Rattle.day_file.proofs.ReadLaws.{Head}
+use Rattle.day_file.proofs.FileLaws.{Lengths, length-word, length-row, length-choice, length-head, length-choices, length-words}
 
 -- every entry is a byte, as it is of any file that code holds
 abbrev pub Bytes : List ℕ → Type 0

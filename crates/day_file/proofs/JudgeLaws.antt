@@ -1,12 +1,12 @@
 -- A file's body, judged on its bytes, is its lists judged.
-use mathlib.Core.Path.{_≡_, refl, sym, _∙_, ap}
+use mathlib.Core.Path.{_≡_, sym, _∙_, ap}
 use mathlib.Core.Bool.{Bool, true, false}
 use mathlib.Core.List.{List}
 use Prim.Native.Nat.{ℕ, _+_, _*_, _-_, _≤_, _<_}
 use native.Mathlib.Omega.{arith}
 use borrow.Author.Tests.{lt-ltb, le-ltb, le-leb, lt-leb}
 use lib.Dec.{ltb, leb}
-use lib.ListN.{length, getD, take}
+use lib.ListN.{getD, take}
 use lib.Seq.{take-at}
 use Rattle.lists.specs.Below.{allBelow}
 use Rattle.lists.specs.Flat.{listBelow}
@@ -15,7 +15,6 @@ use Rattle.lists.proofs.Below.{all-more, one-fails}
 use Rattle.lists.proofs.Through.{all-ext}
 use Rattle.lists.proofs.Flat.{length-list, getD-list}
 use Rattle.constraint.specs.Row.{rowNumber}
-use Rattle.constraint.specs.declared.row.Row.{Row}
 use Rattle.day_file.specs.Day.{levelsRise, lastLevel, allAtMost}
 use Rattle.day_file.specs.File.{wordAt, turned, rowAt, countsIn}
 use Rattle.day_file.specs.declared.counts.DayCounts.{DayCounts}

@@ -3,9 +3,8 @@ use mathlib.Core.Path.{_≡_, refl, sym, _∙_, ap}
 use mathlib.Core.Bool.{Bool, true, false, false≢true}
 use mathlib.Core.List.{List}
 use Prim.Native.Nat.{ℕ, _+_, _*_, _-_, _≤_, _<_}
-use native.Mathlib.Omega.{arith}
 use borrow.Author.Tests.{le-leb, lt-leb, eq-eqb, ne-eqb, leb-true, eqb-true}
-use lib.Dec.{ltb, leb, eqb}
+use lib.Dec.{leb, eqb}
 use lib.ListN.{length, getD}
 use Rattle.lists.specs.Below.{allBelow}
 use Rattle.lists.specs.Flat.{listBelow}
@@ -17,7 +16,7 @@ use Rattle.constraint.specs.declared.check.Checked.{Checked}
 use Rattle.constraint.specs.declared.check.Checked.the-variants.{Good, Refused}
 use Rattle.constraint.specs.declared.refusal.Refusal.{Refusal}
 use Rattle.constraint.specs.declared.refusal.Refusal.the-variants as refusal
-use Rattle.day_file.specs.Day.{Parts, parts, Day, day, rowCounts, countsKeep, levelsRise, lastLevel, allAtMost, rowsJudged, isGood, poolsFull, lengthsFull, padded}
+use Rattle.day_file.specs.Day.{Parts, parts, Day, day, rowCounts, countsKeep, levelsRise, lastLevel, allAtMost, rowsJudged, isGood, poolsFull, padded}
 use Rattle.day_file.specs.File.{wordAt, rowAt, placesOf, lengthIn, versionIn, countsIn, listsIn, dayIn}
 use Rattle.day_file.specs.Calls.{unless, andThen, headJudged, bodyJudged, fileJudged, reading, readOf}
 use Rattle.day_file.specs.declared.counts.DayCounts.{DayCounts}

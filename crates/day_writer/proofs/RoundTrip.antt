@@ -1,5 +1,5 @@
 -- Writing and reading are each other's way back, every day can be written, and no two outcomes fit the writer's promise.
-use mathlib.Core.Path.{_≡_, refl, sym, _∙_, ap}
+use mathlib.Core.Path.{_≡_, sym, _∙_, ap}
 use mathlib.Core.Bool.{true}
 use mathlib.Core.List.{List}
 use Prim.Native.Nat.{ℕ, _≤_}

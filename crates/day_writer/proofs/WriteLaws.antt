@@ -1,16 +1,14 @@
 -- Writing a file: a law for each way through its functions.
 use mathlib.Core.Path.{_≡_, refl, sym, _∙_, ap}
-use mathlib.Core.Bool.{Bool, true, false, _&&_}
-use mathlib.Core.List.{List, [], _∷_, _++_, append-assoc}
+use mathlib.Core.Bool.{Bool, true, false}
+use mathlib.Core.List.{List, [], _∷_, _++_}
 use Prim.Native.Nat.{ℕ, suc, _+_, _*_, _-_, _/_, _%_, _≤_, _<_}
-use native.Mathlib.Nat.{zero-add}
 use native.Mathlib.Numerals.{add-one}
 use native.Mathlib.Omega.{arith}
-use borrow.Author.Tests.{lt-ltb, le-ltb, le-leb, lt-leb, eq-eqb, ne-eqb, eqb-true}
-use lib.Dec.{ltb, leb, eqb}
+use borrow.Author.Tests.{eq-eqb, ne-eqb, eqb-true}
+use lib.Dec.{eqb}
 use lib.ListN.{length, getD, set, replicate}
 use lib.Seq.{sets}
-use Rattle.lists.specs.Below.{allBelow}
 use Rattle.lists.specs.Flat.{joinBelow}
 use Rattle.lists.specs.Pool.{pad}
 use Rattle.lists.proofs.Stores.{sets-append, sets-zeros}
@@ -23,14 +21,14 @@ use Rattle.constraint.specs.declared.check.Checked.{Checked}
 use Rattle.constraint.specs.declared.check.Checked.the-variants.{Good, Refused}
 use Rattle.constraint.specs.declared.refusal.Refusal.{Refusal}
 use Rattle.constraint.specs.declared.refusal.Refusal.the-variants as refusal
-use Rattle.day_file.specs.Day.{Parts, parts, Day, day, rowCounts, countsKeep, lengthsKeep, levelsRise, lastLevel, allAtMost, rowsJudged, isGood}
+use Rattle.day_file.specs.Day.{Parts, Day, day, rowCounts, countsKeep, lengthsKeep, levelsRise, lastLevel, allAtMost, rowsJudged}
 use Rattle.day_file.specs.File.{word, turned, rowBytes, headBytes, choiceBytes, bytesOf, placesOf, BytesHold}
 use Rattle.day_file.specs.Calls.{unless, andThen}
 use Rattle.day_file.specs.declared.counts.DayCounts.{DayCounts}
 use Rattle.constraint.proofs.KeptLaws.{good-each}
 use Rattle.constraint.proofs.RowBytes.{keeps-kind, keeps-left}
 use Rattle.day_file.proofs.CountLaws.{InRange, in-range}
-use Rattle.day_file.proofs.FileLaws.{Lengths, lengths, length-head, length-choices, length-words, length-rows, length-bytes, end-most}
+use Rattle.day_file.proofs.FileLaws.{Lengths, lengths, length-head, length-choices, length-words, length-bytes, end-most}
 use Rattle.day_file.proofs.ReadLaws.{unless-test, unless-rest}
 use Rattle.day_writer.specs.Calls.{longest, listsJudged, dayJudged, writing, writeOf}
 use Rattle.day_writer.specs.declared.write.Written.the-variants as written

@@ -1,15 +1,13 @@
 -- Laws of lists made by place, of joined lists, and of the windows in which their parts stand.
-use mathlib.Core.Path.{_≡_, refl, sym, _∙_, ap}
-use mathlib.Core.Bool.{true, false, cond}
+use mathlib.Core.Path.{_≡_, refl, sym, _∙_}
 use mathlib.Core.List.{List, [], _∷_, _++_, append-assoc}
 use Prim.Native.Nat.{ℕ, zero, suc, _+_, _*_, _-_, _≤_, _<_}
 use native.Mathlib.Decide.{ℕ-discrete, decLt}
-use native.Mathlib.Nat.{not-suc-le-zero, mul-suc, mul-zero, add-zero}
+use native.Mathlib.Nat.{not-suc-le-zero, mul-suc, mul-zero}
 use native.Mathlib.Numerals.{add-one}
 use native.Mathlib.Omega.{arith}
 use borrow.Author.Tests.{lt-ltb, le-ltb}
-use lib.Dec.{ltb}
-use lib.ListN.{length, getD, take, drop, set, replicate, length-append, length-replicate, getD-replicate, List·getD-append}
+use lib.ListN.{length, getD, take, drop, set, replicate, length-append, getD-replicate, List·getD-append}
 use lib.Seq.{getD-at, getD-append-add, ext-getD, take-suc-set, take-all, take-length, take-at, drop-at, take-add, drop-drop, drop-append-add}
 use Rattle.lists.specs.Pool.{pad, window}
 use Rattle.lists.specs.Flat.{listBelow, joinBelow, orZero}

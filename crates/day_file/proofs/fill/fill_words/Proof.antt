@@ -2,7 +2,7 @@
 use mathlib.Core.Path.{_≡_, refl}
 use Prim.Native.Nat.{_+_, _*_, _-_, _≤_}
 use native.Mathlib.Omega.{arith}
-use lib.ListN.{length, getD, take, length-set}
+use lib.ListN.{length, take, length-set}
 use Rattle.lists.specs.Flat.{listBelow, orZero}
 use Rattle.lists.proofs.Flat.{fill-start, fill-next, fill-done}
 use Rattle.day_file.specs.File.{wordAt}

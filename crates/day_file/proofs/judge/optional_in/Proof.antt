@@ -1,5 +1,5 @@
 -- The loop's invariant: every choice before i passes.
-use mathlib.Core.Path.{_≡_, refl, sym}
+use mathlib.Core.Path.{_≡_, sym}
 use mathlib.Core.Bool.{true}
 use Prim.Native.Nat.{_+_, _*_, _-_, _≤_}
 use lib.Dec.{leb}

@@ -1,8 +1,7 @@
 -- What was put into the longer list is, from the front, the file's rows.
-use mathlib.Core.Path.{_≡_, sym, _∙_, ap}
+use mathlib.Core.Path.{sym, _∙_, ap}
 use mathlib.Core.List.{List}
 use Prim.Native.Nat.{ℕ}
-use native.Mathlib.Omega.{arith}
 use lib.ListN.{length}
 use Rattle.lists.proofs.Flat.{length-list}
 use Rattle.constraint.specs.Check.{rowsOf}

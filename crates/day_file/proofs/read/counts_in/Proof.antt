@@ -1,8 +1,5 @@
 -- Each count is the byte or the word at its place.
-use mathlib.Core.Path.{_≡_, refl, ap}
-use Prim.Native.Nat.{ℕ}
 use native.Mathlib.Omega.{arith}
-use lib.ListN.{getD}
 use Rattle.day_file.proofs.JudgeLaws.{counts-read}
 use borrow.Author.Needs.{needs}
 use Rattle.day_file.proofs.read.counts_in.Statement.{statement}

@@ -1,5 +1,4 @@
 -- The head's refusal, or the body's answer.
-use mathlib.Core.Path.{_≡_, sym, _∙_}
 use Rattle.day_file.proofs.ReadLaws.{file-refused, file-head, file-body, counts-keep, counts-end}
 use borrow.Author.Needs.{needs}
 use Rattle.day_file.proofs.read.judge_file.Statement.{statement}

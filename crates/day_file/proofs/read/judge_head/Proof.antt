@@ -1,5 +1,5 @@
 -- Each return is one law: the tests before it held, and its own did not.
-use mathlib.Core.Path.{_≡_, sym, _∙_}
+use mathlib.Core.Path.{sym, _∙_}
 use borrow.Author.Tests.{not-true, not-false}
 use Rattle.day_file.proofs.ReadLaws.{head-short, head-length, head-version, head-counts, head-body, head-good}
 use borrow.Author.Needs.{needs}

@@ -1,5 +1,4 @@
 -- Each return has the tests before it held and its own failed.
-use mathlib.Core.Path.{_≡_}
 use borrow.Author.Tests.{eq-eqb, ne-eqb}
 use Rattle.day_file.specs.Day.{lengthsFull}
 use Rattle.day_file.proofs.read.pools_full.Statement.{statement}

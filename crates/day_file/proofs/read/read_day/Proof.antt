@@ -2,7 +2,7 @@
 use borrow.Author.Tests.{not-true, not-false}
 use Rattle.day_file.specs.Day.{parts}
 use Rattle.day_file.proofs.ReadLaws.{read-short, read-refused, read-head, read-good, counts-keep, counts-end}
-use mathlib.Core.Path.{_≡_, sym, _∙_}
+use mathlib.Core.Path.{sym, _∙_}
 use borrow.Author.Needs.{needs}
 use Rattle.day_file.proofs.read.read_day.Statement.{statement}
 use Rattle.day_file.proofs.read.read_day.Tie as tie

@@ -1,6 +1,6 @@
 -- The loop's invariant: the first i bytes are zero.
 use mathlib.Core.Path.{_≡_, refl}
-use Prim.Native.Nat.{ℕ, _-_, _≤_}
+use Prim.Native.Nat.{_-_, _≤_}
 use native.Mathlib.Omega.{arith}
 use lib.ListN.{length, take, replicate, length-set}
 use Rattle.lists.proofs.Pad.{zeros-more, zeros-all}

@@ -1,5 +1,5 @@
 -- Two words and a byte are the choice's five bytes.
-use mathlib.Core.Path.{_≡_, _∙_}
+use mathlib.Core.Path.{_∙_}
 use lib.ListN.{length-set}
 use Rattle.day_writer.proofs.WriteLaws.{choice-put}
 use borrow.Author.Needs.{needs}

@@ -1,8 +1,8 @@
 -- The loop's invariant: the first i choices are put.
 use mathlib.Core.Path.{_≡_, refl, _∙_}
-use Prim.Native.Nat.{ℕ, _-_, _≤_}
+use Prim.Native.Nat.{_-_, _≤_}
 use native.Mathlib.Omega.{arith}
-use lib.ListN.{length, getD}
+use lib.ListN.{length}
 use lib.Seq.{sets}
 use Rattle.lists.specs.Flat.{joinBelow}
 use Rattle.lists.proofs.Stores.{sets-start, sets-join, sets-done}

@@ -1,5 +1,5 @@
 -- Counts in their ranges fit a byte each, the row count two.
-use mathlib.Core.Path.{_≡_, _∙_}
+use mathlib.Core.Path.{_∙_}
 use native.Mathlib.Omega.{arith}
 use lib.ListN.{length-set}
 use Rattle.day_file.proofs.CountLaws.{in-range}

@@ -1,5 +1,5 @@
 -- Two bytes and two words are the row's six bytes.
-use mathlib.Core.Path.{_≡_, _∙_}
+use mathlib.Core.Path.{_∙_}
 use native.Mathlib.Omega.{arith}
 use lib.ListN.{length-set}
 use Rattle.day_writer.proofs.WriteLaws.{row-put, kind-fits, left-fits}

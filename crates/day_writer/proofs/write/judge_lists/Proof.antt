@@ -1,5 +1,5 @@
 -- Each return is one law: the tests before it held, and its own did not.
-use mathlib.Core.Path.{_≡_, refl}
+use mathlib.Core.Path.{refl}
 use borrow.Author.Tests.{not-true, not-false}
 use Rattle.day_writer.proofs.WriteLaws.{lists-levels, lists-preference, lists-rows, lists-optional, lists-good, last-level, rows-judged}
 use borrow.Author.Needs.{needs}
