@@ -4,3 +4,4 @@ pub mod KindLaws
 pub mod Outcomes
 pub mod RowLaws
 pub mod SignedLaws
+pub mod CountLaws

@@ -8,3 +8,5 @@ pub mod Lists
 pub mod Outcome
 pub mod Pad
 pub mod Pool
+pub mod All
+pub mod Sums

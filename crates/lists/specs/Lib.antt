@@ -2,3 +2,4 @@ pub mod Below
 pub mod Pool
 pub mod First
 pub mod Group
+pub mod All

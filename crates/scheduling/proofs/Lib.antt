@@ -1,0 +1,5 @@
+pub mod PlanLaws
+pub mod RowLaws
+pub mod SumLaws
+pub mod FeasibleLaws
+pub mod CheckLaws

@@ -1,0 +1,30 @@
+-- Past the 24 entries there is none.
+use mathlib.Core.Path.{_≡_, sym}
+use native.Mathlib.Omega.{arith}
+use lib.ListN.{length, List·getD-eq-default}
+use borrow.Author.Needs.{needs}
+use Rattle.scheduling.proofs.rows.size_of.Statement.{statement}
+use Rattle.scheduling.proofs.rows.size_of.Tie as tie
+use Rattle.scheduling.proofs.rows.size_of.Reads as reads
+use Rattle.scheduling.proofs.rows.size_of.Lts as lts
+
+-- src/rows.rt:49:9
+returns : tie.Need-returns
+returns c =
+    let l : length (c .before .args .sizes .now) ≡ 24 = search needs in
+    sym (List·getD-eq-default (c .before .args .sizes .now) 0 {n = c .before .args .slot} (omega (arith, c .if1 .taken)))
+
+-- src/rows.rt:51:5
+mul-result : tie.Need-mul-result
+mul-result c = search needs
+
+-- src/rows.rt:51:5
+element-copy-out-result : tie.Need-element-copy-out-result
+element-copy-out-result c = search needs
+
+-- src/rows.rt:44:1
+returns-2 : tie.Need-returns-2
+returns-2 c = search needs
+
+pub size-of-spec : {M : Type 1} → statement M
+size-of-spec = tie.close (tie.spec returns mul-result element-copy-out-result returns-2)

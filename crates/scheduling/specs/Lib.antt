@@ -1,0 +1,6 @@
+pub mod Day
+pub mod Plan
+pub mod Rows
+pub mod Feasible
+pub mod Sums
+pub mod Check

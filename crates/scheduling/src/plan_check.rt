@@ -1,0 +1,119 @@
+// The plan check as a public call.
+use super::feasible::is_feasible;
+use super::feasible::lengths_fit;
+use super::plan::OMITTED;
+use constraint::check::Checked;
+use constraint::check::Counts;
+use constraint::check::Takes;
+use constraint::check::check_each_row;
+use constraint::check::counts_in_range;
+use constraint::refusal::Refusal;
+ghost use mathlib.Core.Path.{_≡_};
+ghost use Rattle.lists.specs.All.{allOf};
+ghost use Rattle.scheduling.specs.Day.{dayOf};
+ghost use Rattle.scheduling.specs.Check.{cellFits, flagFits, cellsOf, judgeOf, planCheckOf};
+
+// What the plan check answers.
+pub enum PlanChecked {
+    Feasible,
+    Infeasible,
+    Refused(Refusal),
+}
+
+// Whether a plan cell is a slot or 255.
+fn cell_fits(slots: usize, cell: u8) -> bool
+    ensures { λ r. ⌜ r ≡ cellFits slots cell ⌝ }
+{
+    if cell == OMITTED {
+        return true;
+    }
+    (cell as usize) < slots
+}
+
+fn cells_fit(slots: usize, plan: &[u8]) -> bool
+    ensures { λ r. ⌜ r ≡ allOf (cellFits slots) (now (plan .entry)) ⌝ }
+{
+    let mut i = 0;
+    while i < plan.len() {
+        if !cell_fits(slots, plan[i]) {
+            return false;
+        }
+        i += 1;
+    }
+    true
+}
+
+// Whether every optional byte is 0 or 1.
+fn flags_fit(optional: &[u8]) -> bool
+    ensures { λ r. ⌜ r ≡ allOf flagFits (now (optional .entry)) ⌝ }
+{
+    let mut i = 0;
+    while i < optional.len() {
+        if 1 < optional[i] {
+            return false;
+        }
+        i += 1;
+    }
+    true
+}
+
+// Numbers 9 and 13, in this order.
+fn check_cells(slots: usize, optional: &[u8], plan: &[u8]) -> Checked
+    ensures { λ r. ⌜ r ≡ cellsOf slots (now (optional .entry)) (now (plan .entry)) ⌝ }
+{
+    if !cells_fit(slots, plan) {
+        return Checked::Refused(Refusal::PlanCell);
+    }
+    if !flags_fit(optional) {
+        return Checked::Refused(Refusal::Optional);
+    }
+    Checked::Good
+}
+
+// The refusals, lowest number first: 1, 2, 5 with the first bad row, 9, 13.
+fn judge(
+    counts: Counts,
+    mins: &[u16],
+    maxs: &[u16],
+    optional: &[u8],
+    rows: &[u64],
+    plan: &[u8],
+) -> Checked
+    ensures { λ r. ⌜ r ≡ judgeOf (dayOf counts (now (mins .entry)) (now (maxs .entry)) (now (optional .entry)) (now (rows .entry))) (now (plan .entry)) ⌝ }
+{
+    if !counts_in_range(counts, Takes::Scheduling) {
+        return Checked::Refused(Refusal::Count);
+    }
+    if !lengths_fit(counts.choices, mins, maxs, optional, plan) {
+        return Checked::Refused(Refusal::Length);
+    }
+    if rows.len() != counts.rows {
+        return Checked::Refused(Refusal::Length);
+    }
+    let checked = check_each_row(counts, Takes::Scheduling, rows);
+    if let Checked::Refused(why) = checked {
+        return Checked::Refused(why);
+    }
+    check_cells(counts.slots, optional, plan)
+}
+
+// The plan check: refused, feasible or not.
+pub fn check_plan(
+    counts: Counts,
+    mins: &[u16],
+    maxs: &[u16],
+    optional: &[u8],
+    rows: &[u64],
+    plan: &[u8],
+) -> PlanChecked
+    ensures { λ r. ⌜ r ≡ planCheckOf (dayOf counts (now (mins .entry)) (now (maxs .entry)) (now (optional .entry)) (now (rows .entry))) (now (plan .entry)) ⌝ }
+{
+    let judged = judge(counts, mins, maxs, optional, rows, plan);
+    if let Checked::Refused(why) = judged {
+        return PlanChecked::Refused(why);
+    }
+    if is_feasible(counts, mins, maxs, optional, rows, plan) {
+        return PlanChecked::Feasible;
+    }
+    PlanChecked::Infeasible
+}
