@@ -10,3 +10,6 @@ pub mod Pad
 pub mod Pool
 pub mod All
 pub mod Sums
+pub mod Keep
+pub mod SumBelow
+pub mod Copies

@@ -3,3 +3,4 @@ pub mod Pool
 pub mod First
 pub mod Group
 pub mod All
+pub mod Keep
