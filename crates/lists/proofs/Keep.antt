@@ -31,6 +31,33 @@ module _ {ℓ κ} {A : Type ℓ} {B : Type κ} where
   keep-map-none p f [] h = refl
   keep-map-none p f (x ∷ l) h = rw (h x, keep-map-none p f l h)
 
+-- what stands in a joined list, and in a list of values
+module _ {ℓ κ} {A : Type ℓ} {B : Type κ} where
+  pub in-map : (f : A → B) (l : List A) (y : B) → List·Memᴰ y (map f l) → (x : A) × List·Memᴰ x l × (y ≡ f x)
+  in-map f [] y m = absurd (List·Memᴰ·not-nil m)
+  in-map f (x ∷ l) y m =
+      ⊎-elim (λ e. (x, List·Memᴰ·head refl, e))
+      (λ k. let r = in-map f l y k in (r .0, List·Memᴰ·tail (r .1), r .2))
+      (List·Memᴰ·cases-cons m)
+
+  pub map-in : (f : A → B) (l : List A) (x : A) → List·Memᴰ x l → List·Memᴰ (f x) (map f l)
+  map-in f [] x m = absurd (List·Memᴰ·not-nil m)
+  map-in f (y ∷ l) x m = ⊎-elim (λ e. List·Memᴰ·head (ap f e)) (λ k. List·Memᴰ·tail (map-in f l x k)) (List·Memᴰ·cases-cons m)
+
+  pub in-flatMap : (f : A → List B) (l : List A) (y : B) → List·Memᴰ y (flatMap f l) → (x : A) × List·Memᴰ x l × List·Memᴰ y (f x)
+  unfolding flatMap
+  in-flatMap f [] y m = absurd (List·Memᴰ·not-nil m)
+  in-flatMap f (x ∷ l) y m =
+      ⊎-elim (λ k. (x, List·Memᴰ·head refl, k))
+      (λ k. let r = in-flatMap f l y k in (r .0, List·Memᴰ·tail (r .1), r .2))
+      (List·Memᴰ·append-cases (f x) m)
+
+  pub flatMap-in : (f : A → List B) (l : List A) (x : A) (y : B) → List·Memᴰ x l → List·Memᴰ y (f x) → List·Memᴰ y (flatMap f l)
+  unfolding flatMap
+  flatMap-in f [] x y m k = absurd (List·Memᴰ·not-nil m)
+  flatMap-in f (z ∷ l) x y m k =
+      ⊎-elim (λ e. Memᴰ·append-left (flatMap f l) (rw e at k)) (λ t. Memᴰ·append-right (f z) (flatMap-in f l x y t k)) (List·Memᴰ·cases-cons m)
+
 pub map-flatMap {ℓ κ μ} : {A : Type ℓ} {B : Type κ} {C : Type μ} (g : B → C) (f : A → List B) (l : List A) → map g (flatMap f l) ≡ flatMap (λ x. map g (f x)) l
 unfolding flatMap
 map-flatMap g f [] = refl

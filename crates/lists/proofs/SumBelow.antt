@@ -22,3 +22,9 @@ pub sum-first : (n : ℕ) (f : ℕ → ℕ) → sumBelow (suc n) f ≡ f 0 + sum
 unfolding sumBelow
 sum-first zero f = omega arith
 sum-first (suc n) f = rw (sum-first n f) (omega arith)
+
+-- nothing but zeros
+pub sum-zeros : (n : ℕ) → sumBelow n (λ k. 0) ≡ 0
+unfolding sumBelow
+sum-zeros zero = refl
+sum-zeros (suc n) = rw (sum-zeros n)
