@@ -1,4 +1,9 @@
--- The laws of the definitions in specs/.
+-- The laws of the definitions in specs/: of the list, of its pages, and of the call; and those that the proofs of the functions cite.
+pub mod Members
+pub mod Order
+pub mod Pages
+pub mod Settled
+pub mod Examples
 pub mod PlaceLaws
 pub mod CountLaws
 pub mod PageLaws
@@ -6,5 +11,4 @@ pub mod JudgeLaws
 pub mod ListLaws
 pub mod StartLaws
 pub mod WholeLaws
-pub mod Members
 pub mod CallLaws

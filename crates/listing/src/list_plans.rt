@@ -159,22 +159,18 @@ fn list_day(
 {
     let mut sums = no_sums();
     let mut left = budget;
-    if !count_choice(
-        counts.slots,
-        counts.choosers,
-        mins,
-        optional,
-        0,
-        &mut sums,
-        &mut left,
-    ) {
+    let slots = counts.slots;
+    let choosers = counts.choosers;
+    if !count_choice(slots, choosers, mins, optional, 0, &mut sums, &mut left) {
         return Listed::Turns;
     }
+    let nodes = budget - left;
     let total = list_all(counts, mins, maxs, optional, rows, first, room, buffer);
+    let written = written_of(first, room, total);
     Listed::Plans {
-        written: written_of(first, room, total),
+        written,
         total,
-        nodes: budget - left,
+        nodes,
     }
 }
 

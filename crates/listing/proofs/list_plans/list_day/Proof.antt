@@ -16,6 +16,10 @@ returns : tie.Need-returns
 returns c =
     turns-told _ _ _ (c .before .before .before .before .before .before .before .before .before .before .pre) (c .before .before .before .before .no-sums .ensures) (c .before .count-choice .ensures) _ (not-true _ (c .if1 .taken))
 
+sub-nodes : tie.Need-sub-nodes
+sub-nodes c =
+    left-within _ _ _ (c .before .before .before .before .before .before .before .before .before .before .pre) (c .before .before .before .before .no-sums .ensures) (c .before .count-choice .ensures) (not-false _ (c .if1 .left))
+
 list-all-requires : tie.Need-list-all-requires
 list-all-requires c κs =
     let s = c .before .before .before .before .before .before .before .before .before .before .before in
@@ -23,10 +27,6 @@ list-all-requires c κs =
 
 written-of-requires : tie.Need-written-of-requires
 written-of-requires c κs = search needs
-
-sub-t22 : tie.Need-sub-t22
-sub-t22 c =
-    left-within _ _ _ (c .before .before .before .before .before .before .before .before .before .before .before .before .before .before .before .pre) (c .before .before .before .before .before .before .before .before .before .no-sums .ensures) (c .before .before .before .before .before .before .count-choice .ensures) (not-false _ (c .before .before .before .before .before .if1 .left))
 
 same-length : tie.Need-same-length
 same-length c = search needs
@@ -42,8 +42,8 @@ list-day-spec =
     no-sums-requires
     count-choice-requires
     returns
+    sub-nodes
     list-all-requires
     written-of-requires
-    sub-t22
     same-length
     returns-2)
