@@ -1,6 +1,7 @@
 -- The laws of the definitions in specs/.
 pub mod All
 pub mod Below
+pub mod Copies
 pub mod CountBelow
 pub mod Cut
 pub mod Differences
@@ -9,11 +10,12 @@ pub mod Flat
 pub mod Group
 pub mod Keep
 pub mod Lists
+pub mod Members
 pub mod Outcome
 pub mod Pad
 pub mod Partition
 pub mod Sorted
 pub mod Stores
+pub mod SumBelow
 pub mod Sums
 pub mod Through
-pub mod Members

@@ -45,7 +45,7 @@ fn cells_fit(slots: usize, plan: &[u8]) -> bool
 }
 
 // Whether every optional byte is 0 or 1.
-fn flags_fit(optional: &[u8]) -> bool
+pub fn flags_fit(optional: &[u8]) -> bool
     ensures { λ r. ⌜ r ≡ allOf flagFits (now (optional .entry)) ⌝ }
 {
     let mut i = 0;

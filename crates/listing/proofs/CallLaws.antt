@@ -1,0 +1,117 @@
+-- The call: both runs from the empty start, and what they make of the answer and the buffer.
+use mathlib.Core.Path.{_≡_, refl, sym, ap, ap₂, _∙_}
+use mathlib.Core.Bool.{Bool, true, false, cond}
+use mathlib.Core.List.{List, [], flatten}
+use Prim.Native.Nat.{ℕ, zero, _+_, _-_, _≤_, _<_, _^_, min}
+use native.Mathlib.Nat.{zero-add, sub-zero}
+use native.Mathlib.Omega.{arith}
+use borrow.Author.Tests.{leb-true}
+use lib.Dec.{leb}
+use lib.ListN.{length, take, getD, replicate, length-replicate}
+use lib.Seq.{sets}
+use Rattle.constraint.specs.Refusal.{numberOf, carriedBy}
+use Rattle.constraint.specs.declared.check.Checked.the-variants as checked
+use Rattle.constraint.specs.declared.refusal.Refusal.{Refusal}
+use Rattle.scheduling.specs.Day.{Day}
+use Rattle.listing.specs.Placements.{plans, page, total, nodes}
+use Rattle.listing.specs.Outcome.{plansTold, turnsTold, refusedTold, outcome, judgeOf, listedOf, listOf}
+use Rattle.listing.specs.Walk.{nodesFrom, plansFrom, putPlans}
+use Rattle.listing.specs.Steps.{Walks, Counted, Shaped, Lists, Added, Listing, Judged}
+use Rattle.listing.proofs.PageLaws.{put-page, page-length}
+use Rattle.listing.proofs.Members.{sized-plans}
+use Rattle.listing.proofs.WholeLaws.{zeros-at, plans-all, nodes-all, total-within}
+
+-- how many plans the page holds
+page-told : (day : Day) (first room : ℕ) {all : ℕ} → all ≡ total day → min room (all - first) ≡ length (page day first room)
+unfolding page total
+page-told day first room a = ap (λ (k : ℕ). min room (k - first)) a ∙ sym (page-length first room (plans day))
+
+module _ (day : Day) (room : ℕ) (buffer : List ℕ) (j : Judged day room buffer) where
+  -- both runs start with no choice placed and all sums 0
+  pub start-walks : {sums : List ℕ} → sums ≡ replicate 24 0 → Walks (day .counts .slots) (day .counts .choosers) (day .mins) (day .optional) 0 sums
+  start-walks e =
+      record {
+        few-slots = j .few-slots;
+        few-choosers = j .few-choosers;
+        flags = j .optional-fits ∙ sym (j .mins-fit);
+        within = omega arith;
+        entries = ap length e ∙ length-replicate {A = ℕ} 24 0;
+        low = λ slot. rw e (rw (zeros-at 24 slot) (omega arith));
+      }
+
+  -- ---- the second run
+
+  module _ (plan sums : List ℕ) (p : length plan ≡ day .counts .choices) (e : sums ≡ replicate 24 0) where
+    whole-plans : plansFrom day (length plan - 0) (take 0 plan) sums ≡ plans day
+    whole-plans = rw (sub-zero, p, e) (plans-all day (j .few-slots))
+
+    pub list-requires : total day < 2 ^ 64 → Lists day room 0 plan sums (plansFrom day (length plan - 0) (take 0 plan) sums) 0 buffer
+    unfolding total
+    list-requires h =
+        record {
+          shaped =
+              record {
+                few-choices = j .few-choices;
+                few-slots = j .few-slots;
+                mins-fit = j .mins-fit;
+                maxs-fit = j .maxs-fit;
+                optional-fits = j .optional-fits;
+                plan-fits = p;
+                buffer-fits = j .buffer-fits;
+              };
+          walks = start-walks e;
+          numbers = rw whole-plans (omega arith);
+        }
+
+    pub list-answers : {first total' : ℕ} {plan' sums' buffer' : List ℕ}
+        → Listing first room 0 (plansFrom day (length plan - 0) (take 0 plan) sums) plan plan' sums sums' 0 total' buffer buffer'
+        → (total' ≡ total day) × (buffer' ≡ sets buffer 0 (flatten (page day first room)))
+    unfolding total page
+    list-answers {first} g =
+        let a = rw whole-plans at (g .added) in
+        (a .counted ∙ zero-add (length (plans day)), a .written ∙ put-page first room (day .counts .choices) (plans day) buffer 0 first (sized-plans day) (zero-add first))
+
+  -- ---- the first run
+
+  module _ {sums sums' : List ℕ} {budget left : ℕ} {holds : Bool} (e : sums ≡ replicate 24 0)
+      (c : Counted (nodesFrom (day .counts .slots) (day .counts .choosers) (day .mins) (day .optional) (length (day .mins) - 0) 0 sums) budget left sums sums' holds) where
+    whole-nodes : nodesFrom (day .counts .slots) (day .counts .choosers) (day .mins) (day .optional) (length (day .mins) - 0) 0 sums ≡ nodes day
+    whole-nodes = rw (sub-zero, j .mins-fit, e) (nodes-all day (j .few-slots))
+
+    holds-is : holds ≡ leb (nodes day) budget
+    holds-is = c .answer ∙ ap (λ (n : ℕ). leb n budget) whole-nodes
+
+    pub turns-told : (first : ℕ) → holds ≡ false → outcome turnsTold buffer ≡ listedOf day first room budget buffer
+    unfolding listedOf
+    turns-told first f = rw (sym holds-is ∙ f)
+
+    module _ (t : holds ≡ true) where
+      spent-is : budget ≡ nodes day + left
+      spent-is = c .spent t ∙ ap (λ (n : ℕ). n + left) whole-nodes
+
+      pub left-within : left ≤ budget
+      left-within = omega (arith, spent-is)
+
+      pub total-fits : budget < 2 ^ 64 → total day < 2 ^ 64
+      unfolding total
+      total-fits h = omega (arith, total-within day (j .few-slots), spent-is)
+
+      pub plans-told : (first : ℕ) {written all : ℕ} {buffer' : List ℕ} → all ≡ total day → written ≡ min room (all - first)
+          → buffer' ≡ sets buffer 0 (flatten (page day first room)) → outcome (plansTold written all (budget - left)) buffer' ≡ listedOf day first room budget buffer
+      unfolding listedOf
+      plans-told first {written} {all} {buffer'} a w b =
+          let n : budget - left ≡ nodes day = omega (arith, spent-is) in
+          let l : written ≡ length (page day first room) = w ∙ page-told day first room a in
+          rw (sym holds-is ∙ t, a, b, n, l)
+
+-- ---- the refusals
+
+module _ (day : Day) (first room budget : ℕ) (buffer : List ℕ) where
+  pub refused-told : {why : Refusal} → judgeOf day room (length buffer) ≡ checked.Refused why
+      → outcome (refusedTold (numberOf why) (carriedBy why)) buffer ≡ listOf day first room budget buffer
+  unfolding listOf
+  refused-told h = rw h
+
+  pub good-told : judgeOf day room (length buffer) ≡ checked.Good → listedOf day first room budget buffer ≡ listOf day first room budget buffer
+  unfolding listOf
+  good-told h = rw h

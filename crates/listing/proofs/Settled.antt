@@ -1,0 +1,84 @@
+-- What the promise settles: out of turns exactly if the nodes are more than the budget, one total for every page, and no two outcomes.
+use mathlib.Core.Path.{_≡_, refl, sym, ap, _∙_}
+use mathlib.Core.Bool.{Bool, true, false, cond}
+use mathlib.Core.List.{List, flatten}
+use Prim.Native.Nat.{ℕ, suc, _+_, _≤_, _<_}
+use native.Mathlib.Omega.{arith}
+use borrow.Author.Tests.{le-leb, lt-leb, leb-true, leb-false}
+use lib.Dec.{leb}
+use lib.ListN.{length}
+use lib.Seq.{sets}
+use Rattle.lists.specs.Keep.{keep}
+use Rattle.lists.proofs.Outcome.{no-two}
+use Rattle.lists.proofs.SumBelow.{sum-first}
+use Rattle.constraint.specs.declared.check.Checked.the-variants as checked
+use Rattle.scheduling.specs.Day.{Day}
+use Rattle.listing.specs.Placements.{placements, page, total, isNode, nodes}
+use Rattle.listing.specs.Outcome.{Told, plansTold, turnsTold, Outcome, outcome, judgeOf, listedOf, listOf}
+use Rattle.listing.proofs.CallLaws.{good-told}
+use Rattle.listing.proofs.StartLaws.{empty-node}
+
+module _ (day : Day) (first room budget : ℕ) (buffer : List ℕ) where
+  -- no two outcomes fit the promise
+  pub one-outcome : {answer other : Told} {written rest : List ℕ} → outcome answer written ≡ listOf day first room budget buffer
+      → outcome other rest ≡ listOf day first room budget buffer → (answer ≡ other) × (written ≡ rest)
+  one-outcome p q =
+      let z = no-two p q in
+      (ap (λ (o : Outcome). o .answer) z, ap (λ (o : Outcome). o .buffer) z)
+
+  module _ (good : judgeOf day room (length buffer) ≡ checked.Good) where
+    -- out of turns if the nodes are more than the budget
+    pub turns-if : budget < nodes day → listOf day first room budget buffer ≡ outcome turnsTold buffer
+    unfolding listedOf
+    turns-if h = sym (good-told day first room budget buffer good) ∙ rw (lt-leb _ _ h)
+
+    -- and listed if they aren't
+    pub listed-if : nodes day ≤ budget
+        → listOf day first room budget buffer ≡ outcome (plansTold (length (page day first room)) (total day) (nodes day)) (sets buffer 0 (flatten (page day first room)))
+    unfolding listedOf
+    listed-if h = sym (good-told day first room budget buffer good) ∙ rw (le-leb _ _ h)
+
+    -- so only then
+    pub turns-only : listOf day first room budget buffer .answer ≡ turnsTold → budget < nodes day
+    turns-only e = go (leb (nodes day) budget) refl
+      where
+        go : (b : Bool) → leb (nodes day) budget ≡ b → budget < nodes day
+        go false t = leb-false _ _ t
+        go true t =
+            let l : plansTold (length (page day first room)) (total day) (nodes day) ≡ turnsTold = ap (λ (o : Outcome). o .answer) (sym (listed-if (leb-true _ _ t))) ∙ e in
+            let z : _≡_ {A = ℕ} 0 1 = cc in
+            absurd (omega arith)
+
+-- what is told of the plans is the day's, whatever the page: its total and its nodes
+module _ (day : Day) where
+  told-of : (b : Bool) {written all visited : ℕ} (first room budget : ℕ) (buffer : List ℕ) → leb (nodes day) budget ≡ b
+      → listedOf day first room budget buffer .answer ≡ plansTold written all visited → (written ≡ length (page day first room)) × (all ≡ total day) × (visited ≡ nodes day)
+  unfolding listedOf
+  told-of true {written} {all} {visited} first room budget buffer t e =
+      let k : plansTold (length (page day first room)) (total day) (nodes day) ≡ plansTold written all visited = rw t at e in
+      (cc, cc, cc)
+  told-of false {written} {all} {visited} first room budget buffer t e =
+      let k : turnsTold ≡ plansTold written all visited = rw t at e in
+      let z : _≡_ {A = ℕ} 0 1 = cc in
+      absurd (omega arith)
+
+  pub total-told : {written all visited : ℕ} (first room budget : ℕ) (buffer : List ℕ) → judgeOf day room (length buffer) ≡ checked.Good
+      → listOf day first room budget buffer .answer ≡ plansTold written all visited → (written ≡ length (page day first room)) × (all ≡ total day) × (visited ≡ nodes day)
+  total-told first room budget buffer good e =
+      told-of (leb (nodes day) budget) first room budget buffer refl (ap (λ (o : Outcome). o .answer) (good-told day first room budget buffer good) ∙ e)
+
+  -- 'The total doesn't depend on first and room', nor on the budget
+  pub total-same : {written all visited written' all' visited' : ℕ} (first room budget : ℕ) (buffer : List ℕ) (first' room' budget' : ℕ) (buffer' : List ℕ)
+      → judgeOf day room (length buffer) ≡ checked.Good → judgeOf day room' (length buffer') ≡ checked.Good
+      → listOf day first room budget buffer .answer ≡ plansTold written all visited → listOf day first' room' budget' buffer' .answer ≡ plansTold written' all' visited'
+      → (all ≡ all') × (visited ≡ visited')
+  total-same first room budget buffer first' room' budget' buffer' g g' e e' =
+      let t = total-told first room budget buffer g e in
+      let t' = total-told first' room' budget' buffer' g' e' in
+      (t .1 ∙ sym (t' .1), t .2 ∙ sym (t' .2))
+
+  -- the empty start is a node, so that a budget of 0 is always out of turns
+  pub some-nodes : 0 < nodes day
+  unfolding nodes placements keep
+  some-nodes =
+      rw (sum-first (day .counts .choices) (λ n. length (keep (isNode day) (placements (day .counts .slots) n)))) (rw (empty-node day) (omega arith))

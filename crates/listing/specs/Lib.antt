@@ -1,0 +1,4 @@
+pub mod Placements
+pub mod Outcome
+pub mod Walk
+pub mod Steps
