@@ -1,14 +1,16 @@
-<<<<<<< HEAD
--- Laws of tests over a list's elements.
-use mathlib.Core.Path.{_≡_, refl, sym, _∙_, ap}
-use mathlib.Core.Bool.{Bool, true, false, cond, _||_}
-use mathlib.Core.List.{List, [], _∷_, _++_, map}
-use Prim.Native.Nat.{ℕ, suc, _+_, _≤_, _<_}
+-- Laws of the elements that pass a test, of the first that does, and of sums over a list, with lists joined element by element.
+use mathlib.Core.Path.{_≡_, refl, sym, ap, ap₂, fun-ext, _∙_}
+use mathlib.Core.Bool.{Bool, true, false, cond, _||_, false≢true}
+use mathlib.Core.List.{List, [], _∷_, _++_, map, flatMap, append-assoc, List·Memᴰ, List·Memᴰ·head, List·Memᴰ·tail, List·Memᴰ·cases-cons, List·Memᴰ·not-nil, Memᴰ·append-left, Memᴰ·append-right, List·Memᴰ·append-cases}
+use mathlib.Core.Logic.{_⊎_, ⊎-elim}
+use Prim.Native.Nat.{ℕ, zero, suc, _+_, _≤_, _<_}
 use native.Mathlib.Numerals.{add-one}
 use native.Mathlib.Omega.{arith}
-use lib.ListN.{length, getD, drop, drop-of-length-le}
+use lib.ListN.{length, getD, drop, drop-of-length-le, length-append}
 use lib.Seq.{drop-cons}
-use Rattle.lists.specs.Keep.{keep, anyOf}
+use Rattle.lists.specs.Below.{sumBelow}
+use Rattle.lists.specs.Keep.{keep, anyOf, sumOver}
+use Rattle.lists.proofs.Group.{map-append}
 
 -- the search for an element that passes, from place i on
 module _ {ℓ} {A : Type ℓ} (p : A → Bool) (xs : List A) where
@@ -30,18 +32,6 @@ map-at f xs i d h = rw (add-one i, drop-cons xs i d h)
 
 pub drop-at-place {ℓ} : {A : Type ℓ} (xs : List A) (i : ℕ) (d : A) → i < length xs → drop i xs ≡ getD xs i d ∷ drop (i + 1) xs
 drop-at-place xs i d h = drop-cons xs i d h ∙ ap (λ (n : ℕ). getD xs i d ∷ drop n xs) (sym (add-one i))
-=======
--- Laws of the elements that pass a test and of sums over a list, with lists joined element by element.
-use mathlib.Core.Path.{_≡_, refl, sym, ap, ap₂, fun-ext, _∙_}
-use mathlib.Core.Bool.{Bool, true, false, cond, false≢true}
-use mathlib.Core.List.{List, [], _∷_, _++_, map, flatMap, append-assoc, List·Memᴰ, List·Memᴰ·head, List·Memᴰ·tail, List·Memᴰ·cases-cons, List·Memᴰ·not-nil, Memᴰ·append-left, Memᴰ·append-right, List·Memᴰ·append-cases}
-use mathlib.Core.Logic.{_⊎_, ⊎-elim}
-use Prim.Native.Nat.{ℕ, zero, suc, _+_, _≤_, _<_}
-use native.Mathlib.Omega.{arith}
-use lib.ListN.{length, length-append}
-use Rattle.lists.specs.Below.{sumBelow}
-use Rattle.lists.specs.Keep.{keep, sumOver}
-use Rattle.lists.proofs.Group.{map-append}
 
 -- ---- lists joined element by element
 
@@ -162,4 +152,3 @@ module _ {ℓ} {A : Type ℓ} where
   unfolding sumBelow
   sum-swap zero f l = sym (sumOver-zero l)
   sum-swap (suc n) f l = rw (sum-swap n f l) (sym (sumOver-add (λ x. sumBelow n λ k. f k x) (f n) l))
->>>>>>> wt-list

@@ -1,22 +1,5 @@
-<<<<<<< HEAD
--- The elements of a list that pass a test, and whether a number stands in a list.
-use mathlib.Core.Bool.{Bool, true, false, cond, _||_}
-use mathlib.Core.List.{List, [], _∷_, _++_}
-use Prim.Native.Nat.{ℕ}
-use lib.Dec.{eqb}
-
--- the elements that pass, in order
-unfoldable pub keep {ℓ} : {A : Type ℓ} → (A → Bool) → List A → List A
-keep p [] = []
-keep p (x ∷ l) = cond (p x) (x ∷ []) [] ++ keep p l
-
--- some element passes
-unfoldable pub anyOf {ℓ} : {A : Type ℓ} → (A → Bool) → List A → Bool
-anyOf p [] = false
-anyOf p (x ∷ l) = p x || anyOf p l
-=======
--- The elements of a list that pass a test, and a sum over a list.
-use mathlib.Core.Bool.{Bool, cond}
+-- The elements of a list that pass a test, whether one does, and a sum over a list.
+use mathlib.Core.Bool.{Bool, false, cond, _||_}
 use mathlib.Core.List.{List, [], _∷_}
 use Prim.Native.Nat.{ℕ, _+_}
 
@@ -25,8 +8,12 @@ unfoldable pub keep {ℓ} : {A : Type ℓ} → (A → Bool) → List A → List 
 keep p [] = []
 keep p (x ∷ l) = cond (p x) (x ∷ keep p l) (keep p l)
 
+-- some element passes
+unfoldable pub anyOf {ℓ} : {A : Type ℓ} → (A → Bool) → List A → Bool
+anyOf p [] = false
+anyOf p (x ∷ l) = p x || anyOf p l
+
 -- the sum of what the function gives for the elements
 unfoldable pub sumOver {ℓ} : {A : Type ℓ} → (A → ℕ) → List A → ℕ
 sumOver f [] = 0
 sumOver f (x ∷ l) = f x + sumOver f l
->>>>>>> wt-list
