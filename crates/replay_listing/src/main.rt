@@ -15,9 +15,6 @@ ghost use lib.ListN.{length};
 // What a byte of the lent buffer holds before a call.
 const BLANK: u8 = 119;
 
-// Most pages of a size that a day is read in, so that a day of many plans takes no longer than it must.
-const MOST_PAGES: u64 = 60;
-
 // What a case expects: its total and nodes, and where its plans stand in the record.
 struct Expected {
     total: u64,
@@ -232,6 +229,14 @@ fn page_agrees(
     )
 }
 
+// Most pages of one size that a day is read in: all that it has, or the first few of the largest days.
+fn most_pages(nodes: u64) -> u64 {
+    if nodes < 400 {
+        return 200;
+    }
+    5
+}
+
 // Every page of a size, and one past the end.
 fn pages_agree(
     counts: Counts,
@@ -245,7 +250,7 @@ fn pages_agree(
     buffer: &mut [u8],
 ) -> bool {
     let mut first = 0;
-    let mut left = MOST_PAGES;
+    let mut left = most_pages(expected.nodes);
     while 0 < left {
         if !page_agrees(
             counts,

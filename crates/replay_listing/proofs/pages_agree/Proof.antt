@@ -13,6 +13,9 @@ abbrev μ-loop : tie.MeasureT-loop
 μ-loop counts mins maxs optional rows expected room bytes buffer₀ first₀ left₀ buffer first left =
     left
 
+most-pages-requires : tie.Need-most-pages-requires Inv-loop μ-loop
+most-pages-requires c κs = search needs
+
 loop-holds : tie.Need-loop-holds Inv-loop μ-loop
 loop-holds c = refl
 
@@ -55,6 +58,7 @@ pages-agree-spec =
     (tie.spec
     Inv-loop
     μ-loop
+    most-pages-requires
     loop-holds
     page-agrees-requires
     same-length
