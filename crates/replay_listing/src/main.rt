@@ -1,0 +1,544 @@
+// Replays listings whose answers a brute force gave: totals, nodes, every page of several sizes, and budgets around the node count.
+use cases::Next;
+use cases::Tally;
+use cases::byte;
+use cases::number;
+use cases::plus;
+use cases::same;
+use cases::word;
+use constraint::check::Counts;
+use listing::list_plans::Listed;
+use listing::list_plans::list_plans;
+ghost use mathlib.Core.Path.{_≡_};
+ghost use lib.ListN.{length};
+
+// What a byte of the lent buffer holds before a call.
+const BLANK: u8 = 119;
+
+// What a case expects: its total and nodes, and where its plans stand in the record.
+struct Expected {
+    total: u64,
+    nodes: u64,
+    plans: usize,
+}
+
+// A count times a size, by sums that wrap where no list reaches.
+fn times(count: u64, size: usize) -> usize {
+    let mut sum = 0;
+    let mut i = 0;
+    while i < count {
+        sum = plus(sum, size);
+        i += 1;
+    }
+    sum
+}
+
+// 64 words from a place on, high byte first.
+fn read_words(bytes: &[u8], at: usize) -> [u16; 64]
+    ensures { λ r. ⌜ 64 ≡ length r ⌝ }
+{
+    let mut words = [0u16; 64];
+    let mut i = 0;
+    while i < 64 {
+        words[i] = word(bytes, plus(at, plus(i, i)));
+        i += 1;
+    }
+    words
+}
+
+// 64 bytes from a place on.
+fn read_bytes(bytes: &[u8], at: usize) -> [u8; 64]
+    ensures { λ r. ⌜ 64 ≡ length r ⌝ }
+{
+    let mut flags = [0u8; 64];
+    let mut i = 0;
+    while i < 64 {
+        flags[i] = byte(bytes, plus(at, i));
+        i += 1;
+    }
+    flags
+}
+
+// 16 rows from a place on, by their numbers.
+fn read_rows(bytes: &[u8], at: usize) -> [u64; 16]
+    ensures { λ r. ⌜ 16 ≡ length r ⌝ }
+{
+    let mut rows = [0u64; 16];
+    let mut i = 0;
+    while i < 16 {
+        rows[i] = number(bytes, plus(at, times(8, i)));
+        i += 1;
+    }
+    rows
+}
+
+// The first n words of a list, or all of them.
+fn first_words(words: &[u16], n: usize) -> &[u16] {
+    if words.len() < n {
+        return words;
+    }
+    &words[..n]
+}
+
+// The first n bytes of a list, or all of them.
+fn first_bytes(bytes: &[u8], n: usize) -> &[u8] {
+    if bytes.len() < n {
+        return bytes;
+    }
+    &bytes[..n]
+}
+
+// The first n rows of a list, or all of them.
+fn first_rows(rows: &[u64], n: usize) -> &[u64] {
+    if rows.len() < n {
+        return rows;
+    }
+    &rows[..n]
+}
+
+// Blanks what is lent.
+fn blank(buffer: &mut [u8]) {
+    let mut i = 0;
+    while i < buffer.len() {
+        buffer[i] = BLANK;
+        i += 1;
+    }
+}
+
+// Whether the buffer is blank from a place on.
+fn is_blank(buffer: &[u8], from: usize) -> bool {
+    let mut i = from;
+    while i < buffer.len() {
+        if buffer[i] != BLANK {
+            return false;
+        }
+        i += 1;
+    }
+    true
+}
+
+// How many plans a page from the first number on holds.
+fn on_page(total: u64, first: u64, room: u64) -> u64 {
+    if total <= first {
+        return 0;
+    }
+    if total - first < room {
+        return total - first;
+    }
+    room
+}
+
+// Whether an answer and the buffer are the page from the first number on.
+fn is_page(
+    listed: Listed,
+    expected: Expected,
+    choices: usize,
+    first: u64,
+    room: u64,
+    bytes: &[u8],
+    buffer: &[u8],
+) -> bool {
+    let Listed::Plans {
+        written,
+        total,
+        nodes,
+    } = listed
+    else {
+        return false;
+    };
+    if written != on_page(expected.total, first, room) {
+        return false;
+    }
+    if total != expected.total {
+        return false;
+    }
+    if nodes != expected.nodes {
+        return false;
+    }
+    let size = times(written, choices);
+    let at = plus(
+        expected.plans,
+        times(on_page(expected.total, 0, first), choices),
+    );
+    if !same(buffer, 0, bytes, at, size) {
+        return false;
+    }
+    is_blank(buffer, size)
+}
+
+// One page in what is lent for it.
+fn lent_page(
+    counts: Counts,
+    mins: &[u16],
+    maxs: &[u16],
+    optional: &[u8],
+    rows: &[u64],
+    expected: Expected,
+    first: u64,
+    room: u64,
+    budget: u64,
+    bytes: &[u8],
+    lent: &mut [u8],
+) -> bool {
+    blank(lent);
+    let listed = list_plans(
+        counts,
+        mins,
+        maxs,
+        optional,
+        rows,
+        first,
+        room,
+        budget,
+        lent,
+    );
+    is_page(listed, expected, counts.choices, first, room, bytes, lent)
+}
+
+// One page, with a budget that is enough.
+fn page_agrees(
+    counts: Counts,
+    mins: &[u16],
+    maxs: &[u16],
+    optional: &[u8],
+    rows: &[u64],
+    expected: Expected,
+    first: u64,
+    room: u64,
+    budget: u64,
+    bytes: &[u8],
+    buffer: &mut [u8],
+) -> bool {
+    let size = times(room, counts.choices);
+    if buffer.len() < size {
+        return false;
+    }
+    let lent = &mut buffer[..size];
+    lent_page(
+        counts,
+        mins,
+        maxs,
+        optional,
+        rows,
+        expected,
+        first,
+        room,
+        budget,
+        bytes,
+        lent,
+    )
+}
+
+// Most pages of one size that a day is read in: all that it has, or the first few of the largest days.
+fn most_pages(nodes: u64) -> u64 {
+    if nodes < 400 {
+        return 200;
+    }
+    5
+}
+
+// Every page of a size, and one past the end.
+fn pages_agree(
+    counts: Counts,
+    mins: &[u16],
+    maxs: &[u16],
+    optional: &[u8],
+    rows: &[u64],
+    expected: Expected,
+    room: u64,
+    bytes: &[u8],
+    buffer: &mut [u8],
+) -> bool {
+    let mut first = 0;
+    let mut left = most_pages(expected.nodes);
+    while 0 < left {
+        if !page_agrees(
+            counts,
+            mins,
+            maxs,
+            optional,
+            rows,
+            expected,
+            first,
+            room,
+            0xffff_ffff_ffff_ffff,
+            bytes,
+            buffer,
+        ) {
+            return false;
+        }
+        if expected.total <= first {
+            return true;
+        }
+        first = std::num::wrapping_add_u64(first, room);
+        left -= 1;
+    }
+    true
+}
+
+// Whether the call runs out of turns and writes nothing into what is lent.
+fn lent_turns(
+    counts: Counts,
+    mins: &[u16],
+    maxs: &[u16],
+    optional: &[u8],
+    rows: &[u64],
+    room: u64,
+    budget: u64,
+    lent: &mut [u8],
+) -> bool {
+    blank(lent);
+    let listed = list_plans(counts, mins, maxs, optional, rows, 0, room, budget, lent);
+    let Listed::Turns = listed else {
+        return false;
+    };
+    is_blank(lent, 0)
+}
+
+// One node too few: out of turns.
+fn turns_agree(
+    counts: Counts,
+    mins: &[u16],
+    maxs: &[u16],
+    optional: &[u8],
+    rows: &[u64],
+    expected: Expected,
+    buffer: &mut [u8],
+) -> bool {
+    let size = times(expected.total, counts.choices);
+    if buffer.len() < size {
+        return false;
+    }
+    let fewer = std::num::wrapping_sub_u64(expected.nodes, 1);
+    let lent = &mut buffer[..size];
+    lent_turns(
+        counts,
+        mins,
+        maxs,
+        optional,
+        rows,
+        expected.total,
+        fewer,
+        lent,
+    )
+}
+
+// Every page of several sizes.
+fn all_pages_agree(
+    counts: Counts,
+    mins: &[u16],
+    maxs: &[u16],
+    optional: &[u8],
+    rows: &[u64],
+    expected: Expected,
+    bytes: &[u8],
+    buffer: &mut [u8],
+) -> bool {
+    if !pages_agree(
+        counts,
+        mins,
+        maxs,
+        optional,
+        rows,
+        expected,
+        1,
+        bytes,
+        buffer,
+    ) {
+        return false;
+    }
+    if !pages_agree(
+        counts,
+        mins,
+        maxs,
+        optional,
+        rows,
+        expected,
+        2,
+        bytes,
+        buffer,
+    ) {
+        return false;
+    }
+    if !pages_agree(
+        counts,
+        mins,
+        maxs,
+        optional,
+        rows,
+        expected,
+        3,
+        bytes,
+        buffer,
+    ) {
+        return false;
+    }
+    if !pages_agree(
+        counts,
+        mins,
+        maxs,
+        optional,
+        rows,
+        expected,
+        7,
+        bytes,
+        buffer,
+    ) {
+        return false;
+    }
+    pages_agree(
+        counts,
+        mins,
+        maxs,
+        optional,
+        rows,
+        expected,
+        100,
+        bytes,
+        buffer,
+    )
+}
+
+// The total only, and the whole list in one page, with budgets at and one above the nodes.
+fn budgets_agree(
+    counts: Counts,
+    mins: &[u16],
+    maxs: &[u16],
+    optional: &[u8],
+    rows: &[u64],
+    expected: Expected,
+    bytes: &[u8],
+    buffer: &mut [u8],
+) -> bool {
+    let total = expected.total;
+    let nodes = expected.nodes;
+    let more = std::num::wrapping_add_u64(nodes, 1);
+    if !page_agrees(
+        counts,
+        mins,
+        maxs,
+        optional,
+        rows,
+        expected,
+        0,
+        0,
+        more,
+        bytes,
+        buffer,
+    ) {
+        return false;
+    }
+    if !page_agrees(
+        counts,
+        mins,
+        maxs,
+        optional,
+        rows,
+        expected,
+        0,
+        total,
+        nodes,
+        bytes,
+        buffer,
+    ) {
+        return false;
+    }
+    page_agrees(
+        counts,
+        mins,
+        maxs,
+        optional,
+        rows,
+        expected,
+        0,
+        total,
+        more,
+        bytes,
+        buffer,
+    )
+}
+
+// Every page of several sizes, and budgets one below, at and one above the nodes.
+fn day_agrees(
+    counts: Counts,
+    mins: &[u16],
+    maxs: &[u16],
+    optional: &[u8],
+    rows: &[u64],
+    expected: Expected,
+    bytes: &[u8],
+    buffer: &mut [u8],
+) -> bool {
+    if !all_pages_agree(counts, mins, maxs, optional, rows, expected, bytes, buffer) {
+        return false;
+    }
+    if !budgets_agree(counts, mins, maxs, optional, rows, expected, bytes, buffer) {
+        return false;
+    }
+    turns_agree(counts, mins, maxs, optional, rows, expected, buffer)
+}
+
+// One day: its numbers from the record's front on, and behind them what is expected.
+fn agrees(bytes: &[u8], buffer: &mut [u8]) -> bool {
+    let choices = byte(bytes, 0) as usize;
+    let given = word(bytes, 3) as usize;
+    let at = 5 + 8 * given;
+    let rows = read_rows(bytes, 5);
+    let mins = read_words(bytes, at);
+    let maxs = read_words(bytes, at + 2 * choices);
+    let optional = read_bytes(bytes, at + 4 * choices);
+    let counts = Counts {
+        choices,
+        slots: byte(bytes, 1) as usize,
+        choosers: byte(bytes, 2) as usize,
+        rows: given,
+    };
+    let answer = at + 5 * choices;
+    let expected = Expected {
+        total: number(bytes, answer),
+        nodes: number(bytes, answer + 8),
+        plans: answer + 16,
+    };
+    day_agrees(
+        counts,
+        first_words(&mins, choices),
+        first_words(&maxs, choices),
+        first_bytes(&optional, choices),
+        first_rows(&rows, given),
+        expected,
+        bytes,
+        buffer,
+    )
+}
+
+// What the end of the file adds: a broken record is a difference.
+fn ended(next: Next, tally: Tally) -> Tally {
+    match next {
+        Next::Record(_) => tally,
+        Next::End => tally,
+        Next::Broken => tally.with(false),
+    }
+}
+
+// Every record of the file.
+fn replay(file: i32, bytes: &mut [u8], buffer: &mut [u8]) -> Tally {
+    let mut tally = Tally::new();
+    let mut left = 0x1_0000_0000u64;
+    while 0 < left {
+        let next = cases::read_next(file, bytes);
+        let Next::Record(_) = next else {
+            return ended(next, tally);
+        };
+        tally = tally.with(agrees(bytes, buffer));
+        left -= 1;
+    }
+    tally
+}
+
+fn main() {
+    let file = cases::open();
+    let mut bytes = [0u8; 12800];
+    let mut buffer = [0u8; 12800];
+    let tally = replay(file, &mut bytes, &mut buffer);
+    tally.tell(b"listing");
+}
