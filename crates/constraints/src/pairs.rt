@@ -6,11 +6,11 @@ use constraint::number::Choice;
 use constraint::row::Row;
 ghost use mathlib.Core.Path.{_≡_};
 ghost use mathlib.Core.List.{map};
-ghost use Prim.Native.Nat.{_+_, _≤_};
-ghost use lib.ListN.{length};
+ghost use Prim.Native.Nat.{_+_, _≤_, _<_};
+ghost use lib.ListN.{length, getD};
 ghost use Rattle.lists.specs.Cut.{cutAt, EndsFit};
 ghost use Rattle.constraints.specs.Free.{Wrote, Countable};
-ghost use Rattle.constraints.specs.Pairs.{pairRow, pairsOf, groupPairs, mandatoryOne, mandatory, mandatoryPairs};
+ghost use Rattle.constraints.specs.Pairs.{pairRow, pairsOf, groupPairs, mandatoryOne, mandatory, mandatoryPairs, MarkedOne, Marked};
 
 // The kind 4 row of two choices, the earlier position left.
 fn pair_row(left: u16, right: u16) -> u64
@@ -107,17 +107,80 @@ fn no_choices() -> [u16; 128]
     [0u16; 128]
 }
 
+// No chooser named yet.
+fn no_flags() -> [u8; 256]
+    ensures { λ r. ⌜ 256 ≡ length r ⌝ }
+{
+    [0u8; 256]
+}
+
+// Marks the chooser of a row, if it is of kind 11.
+fn mark_one(number: u64, named: &mut [u8])
+    ensures { λ _. ⌜ MarkedOne number (now (named .entry)) (now (named .exit)) ⌝ }
+{
+    let row = Row::of(number);
+    if row.kind != Kind::CHOOSER_IS_IN_CHOICE {
+        return;
+    }
+    let at = row.left as usize;
+    if at >= named.len() {
+        return;
+    }
+    named[at] = 1;
+}
+
+// Marks each chooser that a row of kind 11 names.
+fn mark(rows: &[u64], named: &mut [u8])
+    ensures { λ _. ⌜ Marked (now (rows .entry)) (now (named .exit)) ⌝ }
+{
+    let mut i = 0;
+    while i < rows.len() {
+        mark_one(rows[i], named);
+        i += 1;
+    }
+}
+
+// A chooser's flag, or 1 for one that has none.
+fn flag_of(named: &[u8], chooser: usize) -> u8
+    ensures { λ r. ⌜ (r ≡ 0 → (chooser < length (now (named .entry))) × (getD (now (named .entry)) chooser 0 ≡ 0)) ⌝ }
+{
+    if chooser >= named.len() {
+        return 1;
+    }
+    named[chooser]
+}
+
+// Writes the pairs of a chooser's list, which is empty if its flag is zero; the answer is the place after them.
+fn pairs_for(
+    rows: &[u64],
+    named: &[u8],
+    chooser: usize,
+    list: &mut [u16],
+    free: &mut [u64],
+    at: usize,
+) -> usize
+    requires { ⌜ (length (now rows) ≤ length (now list)) × Marked (now rows) (now named) × Countable at (pairsOf (mandatory (now rows) chooser)) ⌝ }
+    ensures { λ r. ⌜ Wrote (now (free .entry)) at (pairsOf (mandatory (now (rows .entry)) chooser)) r (now (free .exit)) ⌝ }
+{
+    if flag_of(named, chooser) == 0 {
+        return at;
+    }
+    let count = mandatory(rows, chooser, list);
+    pairs_of(&list[..count], free, at)
+}
+
 // Writes the pairs of each chooser's list; the answer is how many they are.
 pub(crate) fn mandatory_pairs(choosers: usize, rows: &[u64], free: &mut [u64]) -> usize
     requires { ⌜ (length (now rows) ≤ 128) × Countable 0 (mandatoryPairs (now rows) choosers) ⌝ }
     ensures { λ r. ⌜ Wrote (now (free .entry)) 0 (mandatoryPairs (now (rows .entry)) choosers) r (now (free .exit)) ⌝ }
 {
     let mut list = no_choices();
+    let mut named = no_flags();
+    mark(rows, &mut named);
     let mut at = 0;
     let mut chooser = 0;
     while chooser < choosers {
-        let count = mandatory(rows, chooser, &mut list);
-        at = pairs_of(&list[..count], free, at);
+        at = pairs_for(rows, &named, chooser, &mut list, free, at);
         chooser += 1;
     }
     at
