@@ -5,6 +5,7 @@ The records are as the oracle's README.md gives them, without answers.
 
 import struct
 import sys
+from functools import partial
 from pathlib import Path
 
 ORACLE = Path(__file__).resolve().parent.parent / "oracle"
@@ -13,10 +14,11 @@ sys.path.insert(0, str(ORACLE))
 sys.dont_write_bytecode = True
 import scope  # noqa: E402
 from cases import plan_check, reduction  # noqa: E402
-from cases.common import Draws, parts, record, row, u16s  # noqa: E402
+from cases.common import Draws, parts, random_row, record, row, u16s  # noqa: E402
 
 SEED = 2_001
 PLANS = 200
+LONG_PLANS = 20
 REDUCTIONS = 20
 
 
@@ -55,6 +57,25 @@ def infeasible_plans():
         if not passes(day):
             bodies.append(day.body())
     return bodies
+
+
+# Plans of 20 stations and 6 blocks with 1,000 rows of one kind: what each kind's row costs.
+
+
+def long_day(draws, kind):
+    """A day and a plan that keeps it, so that no side stops before the last row."""
+    day = plan_check.random_day(draws, 20, 6, draws.between(12, 40), 0)
+    while len(day.rows) < 1000:
+        one = random_row(draws, kind, 20, day.slots, 0)
+        one = plan_check.fitted(draws, one, day.plan)
+        if plan_check.holds(one, day.plan):
+            day.rows.append(one)
+    return day
+
+
+def long_plans(kind):
+    draws = Draws(SEED + 4 + kind)
+    return [long_day(draws, kind).body() for _ in range(LONG_PLANS)]
 
 
 # Reductions: 128 rows that expand to about 1,000.
@@ -123,6 +144,7 @@ SETS = {
     "plans that pass": ("plan_check", lambda: feasible_plans(range(1, 7))),
     "plans that pass, no size limits": ("plan_check", lambda: feasible_plans(range(1, 6))),
     "plans that fail": ("plan_check", infeasible_plans),
+    **{f"1,000 rows of kind {kind}": ("plan_check", partial(long_plans, kind)) for kind in range(1, 7)},
     "rows, one group": ("reduction", lambda: reductions(one_group)),
     "rows, lists of choosers": ("reduction", lambda: reductions(chooser_lists)),
     "rows, groups and choosers": ("reduction", lambda: reductions(groups_and_choosers)),

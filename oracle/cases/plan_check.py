@@ -138,21 +138,26 @@ def holds(one, plan):
             -1: count != right, -2: count <= right, -3: count < right}[extra]
 
 
+def fitted(draws, one, plan):
+    """The row with its slot, offset or limit made to fit the plan, or nearly."""
+    kind, left, right = parts(one)[:3]
+    if kind == 1 and plan[left] != OMITTED:
+        return row(1, left, plan[left])
+    if kind == 5 and OMITTED not in (plan[left], plan[right]):
+        return row(5, left, right, plan[right] - plan[left])
+    if kind == 6:
+        near = max(0, plan.count(left) + draws.between(-1, 1))
+        return row(6, left, near, draws.pick(list(OPS.values())))
+    return one
+
+
 def fitting_row(draws, plan, slots):
     """A row that the plan keeps, often just so."""
     choices = len(plan)
     for _ in range(20):
         kinds = possible_kinds(KINDS, choices, slots, 0)
         kind = draws.pick(kinds)
-        one = random_row(draws, kind, choices, slots, 0)
-        left, right = parts(one)[1:3]
-        if kind == 1 and plan[left] != OMITTED:
-            one = row(1, left, plan[left])
-        if kind == 5 and OMITTED not in (plan[left], plan[right]):
-            one = row(5, left, right, plan[right] - plan[left])
-        if kind == 6:
-            near = max(0, plan.count(left) + draws.between(-1, 1))
-            one = row(6, left, near, draws.pick(list(OPS.values())))
+        one = fitted(draws, random_row(draws, kind, choices, slots, 0), plan)
         if holds(one, plan):
             return [one]
     return []

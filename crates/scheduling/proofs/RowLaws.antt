@@ -1,13 +1,15 @@
 -- Rows: each case of an op, of an offset, and of a row's kind.
 use mathlib.Core.Path.{_≡_, refl, sym, _∙_, ap}
 use mathlib.Core.Bool.{Bool, true, false, _&&_, not, cond}
-use mathlib.Core.List.{List}
-use Prim.Native.Nat.{ℕ, _+_, _≤_, _<_}
+use mathlib.Core.List.{List, [], _∷_}
+use Prim.Native.Nat.{ℕ, suc, _+_, _-_, _≤_, _<_}
+use native.Mathlib.Omega.{arith}
 use borrow.Author.Tests.{eq-eqb, ne-eqb}
 use lib.Dec.{eqb, ltb, leb}
-use lib.ListN.{length, getD, drop}
+use lib.ListN.{length, getD, take}
+use lib.Seq.{take-suc, take-length}
 use Rattle.lists.specs.All.{allOf}
-use Rattle.lists.proofs.All.{all-passes, all-fails, all-passed}
+use Rattle.lists.proofs.All.{all-append}
 use Rattle.constraint.specs.Op.{eqOp, gtOp, geqOp, neqOp, leqOp, ltOp}
 use Rattle.constraint.specs.Row.{rowOf}
 use Rattle.constraint.specs.declared.row.Row.{Row}
@@ -104,23 +106,46 @@ module _ (plan : List ℕ) (row : Row) where
   keeps-no-other a b c d e f =
       simp (ne-eqb _ _ a, ne-eqb _ _ b, ne-eqb _ _ c, ne-eqb _ _ d, ne-eqb _ _ e, ne-eqb _ _ f)
 
--- the loop over the rows: what is left of the list decides
+-- the loop over the rows, last row first: what is left of the list decides
 module _ (plan rows : List ℕ) where
   pub RowsLeft : ℕ → Type 0
-  RowsLeft i = keepsRows plan rows ≡ keepsRows plan (drop i rows)
+  RowsLeft left = keepsRows plan rows ≡ keepsRows plan (take left rows)
 
-  pub rows-start : RowsLeft 0
+  pub rows-start : RowsLeft (length rows)
   unfolding RowsLeft
-  rows-start = refl
+  rows-start = ap (keepsRows plan) (sym (take-length rows))
 
-  pub rows-next : (i : ℕ) → i < length rows → RowsLeft i → keepsRow plan (rowOf (getD rows i 0)) ≡ true → RowsLeft (i + 1)
-  unfolding RowsLeft keepsRows
-  rows-next i h f t = f ∙ all-passes (λ number. keepsRow plan (rowOf number)) rows i 0 h t
+  -- the last row, and those before it
+  last-row : (i : ℕ) → i < length rows → keepsRows plan (take (suc i) rows) ≡ (keepsRows plan (take i rows) && (keepsRow plan (rowOf (getD rows i 0)) && true))
+  unfolding keepsRows allOf
+  last-row i h = rw (take-suc rows i 0 h) (all-append (λ number. keepsRow plan (rowOf number)) (take i rows) (getD rows i 0 ∷ []))
 
-  pub rows-broken : (i : ℕ) → i < length rows → RowsLeft i → keepsRow plan (rowOf (getD rows i 0)) ≡ false → keepsRows plan rows ≡ false
-  unfolding RowsLeft keepsRows
-  rows-broken i h f t = f ∙ all-fails (λ number. keepsRow plan (rowOf number)) rows i 0 h t
+  from-last : (left : ℕ) → 0 < left → left ≤ length rows → RowsLeft left
+      → keepsRows plan rows ≡ (keepsRows plan (take (left - 1) rows) && (keepsRow plan (rowOf (getD rows (left - 1) 0)) && true))
+  unfolding RowsLeft
+  from-last left h l f =
+      let e : left ≡ suc (left - 1) = omega arith in
+      f ∙ ap (λ (n : ℕ). keepsRows plan (take n rows)) e ∙ last-row (left - 1) (omega arith)
 
-  pub rows-kept : (i : ℕ) → length rows ≤ i → RowsLeft i → keepsRows plan rows ≡ true
-  unfolding RowsLeft keepsRows
-  rows-kept i h f = f ∙ all-passed (λ number. keepsRow plan (rowOf number)) rows i h
+  pub rows-next : (left : ℕ) → 0 < left → left ≤ length rows → RowsLeft left → keepsRow plan (rowOf (getD rows (left - 1) 0)) ≡ true → RowsLeft (left - 1)
+  unfolding RowsLeft
+  rows-next left h l f t =
+      from-last left h l f ∙ ap (λ (b : Bool). keepsRows plan (take (left - 1) rows) && (b && true)) t ∙ and-kept (keepsRows plan (take (left - 1) rows))
+    where
+      and-kept : (b : Bool) → (b && (true && true)) ≡ b
+      and-kept true = refl
+      and-kept false = refl
+
+  pub rows-broken : (left : ℕ) → 0 < left → left ≤ length rows → RowsLeft left → keepsRow plan (rowOf (getD rows (left - 1) 0)) ≡ false → keepsRows plan rows ≡ false
+  rows-broken left h l f t =
+      from-last left h l f ∙ ap (λ (b : Bool). keepsRows plan (take (left - 1) rows) && (b && true)) t ∙ and-broken (keepsRows plan (take (left - 1) rows))
+    where
+      and-broken : (b : Bool) → (b && (false && true)) ≡ false
+      and-broken true = refl
+      and-broken false = refl
+
+  pub rows-kept : (left : ℕ) → left ≤ 0 → RowsLeft left → keepsRows plan rows ≡ true
+  unfolding RowsLeft keepsRows allOf
+  rows-kept left h f =
+      let e : left ≡ 0 = omega arith in
+      f ∙ ap (λ (n : ℕ). keepsRows plan (take n rows)) e

@@ -5,9 +5,40 @@ use constraint::kind::Kind;
 use constraint::op::Op;
 use constraint::row::Row;
 ghost use mathlib.Core.Path.{_≡_};
+ghost use lib.Dec.{eqb};
 ghost use lib.ListN.{length, getD};
+ghost use Rattle.constraint.specs.Row.{rowOf};
+ghost use Rattle.scheduling.specs.Plan.{slotOf};
 ghost use Rattle.scheduling.specs.Sums.{Sizes};
 ghost use Rattle.scheduling.specs.Rows.{slotsDiffer, offsetKept, opHolds, keepsRow, keepsRows};
+
+// The kind of a number's row. Each column has its function, so that an arm takes no more of the number apart than its kind needs.
+fn kind_of(number: u64) -> u16
+    ensures { λ r. ⌜ r ≡ rowOf number .kind ⌝ }
+{
+    Row::of(number).kind
+}
+
+// The left column of a number's row.
+fn left_of(number: u64) -> u16
+    ensures { λ r. ⌜ r ≡ rowOf number .left ⌝ }
+{
+    Row::of(number).left
+}
+
+// The right column of a number's row.
+fn right_of(number: u64) -> u16
+    ensures { λ r. ⌜ r ≡ rowOf number .right ⌝ }
+{
+    Row::of(number).right
+}
+
+// The extra column of a number's row, 32,768 higher as the row keeps it.
+fn extra_of(number: u64) -> u16
+    ensures { λ r. ⌜ r ≡ rowOf number .extra ⌝ }
+{
+    Row::of(number).extra
+}
 
 // Kind 6's comparison: a slot's count of choices against the limit, by the op.
 pub fn op_holds(op: u16, count: u32, limit: u16) -> bool
@@ -22,6 +53,32 @@ pub fn op_holds(op: u16, count: u32, limit: u16) -> bool
         Op::LEQ => count <= limit as u32,
         _ => false,
     }
+}
+
+// Kinds 1 and 2. The slot is read on each of the two ways, so that they stay two and no byte is joined with 255.
+fn in_slot(plan: &[u8], number: u64) -> bool
+    ensures { λ r. ⌜ r ≡ eqb (slotOf (now (plan .entry)) (rowOf number .left)) (rowOf number .right) ⌝ }
+{
+    let at = left_of(number) as usize;
+    if plan.len() <= at {
+        return OMITTED as u16 == right_of(number);
+    }
+    plan[at] as u16 == right_of(number)
+}
+
+// Kind 3: a way of its own for each choice past the plan's end, as above.
+fn same_slot(plan: &[u8], left: u16, right: u16) -> bool
+    ensures { λ r. ⌜ r ≡ eqb (slotOf (now (plan .entry)) left) (slotOf (now (plan .entry)) right) ⌝ }
+{
+    let from = left as usize;
+    if plan.len() <= from {
+        return OMITTED == slot_of(plan, right);
+    }
+    let to = right as usize;
+    if plan.len() <= to {
+        return plan[from] == OMITTED;
+    }
+    plan[from] == plan[to]
 }
 
 // Kind 4: two omitted choices stand in no slot, so they pass.
@@ -62,34 +119,42 @@ fn size_of(sizes: &[u32; 24], slot: u16) -> u32
     sizes[at]
 }
 
-// Whether the plan keeps one row; the sizes are the plan's.
-pub(crate) fn keeps_row(row: Row, plan: &[u8], sizes: &[u32; 24]) -> bool
+// Whether the plan keeps a number's row; the sizes are the plan's.
+pub(crate) fn keeps_row(number: u64, plan: &[u8], sizes: &[u32; 24]) -> bool
     requires { ⌜ Sizes (now plan) (now sizes) ⌝ }
-    ensures { λ r. ⌜ r ≡ keepsRow (now (plan .entry)) row ⌝ }
+    ensures { λ r. ⌜ r ≡ keepsRow (now (plan .entry)) (rowOf number) ⌝ }
 {
-    let kind = row.kind;
-    match kind {
-        Kind::CHOICE_IS_IN_SLOT => slot_of(plan, row.left) as u16 == row.right,
-        Kind::CHOICE_IS_NOT_IN_SLOT => slot_of(plan, row.left) as u16 != row.right,
-        Kind::CHOICES_ARE_IN_SAME_SLOT => slot_of(plan, row.left) == slot_of(plan, row.right),
-        Kind::CHOICES_ARE_NOT_IN_SAME_SLOT => slots_differ(plan, row.left, row.right),
-        Kind::CHOICES_HAVE_OFFSET => keeps_offset(plan, row.left, row.right, row.extra),
-        Kind::SLOT_HAS_LIMITED_SIZE => op_holds(row.extra, size_of(sizes, row.left), row.right),
+    match kind_of(number) {
+        Kind::CHOICE_IS_IN_SLOT => in_slot(plan, number),
+        Kind::CHOICE_IS_NOT_IN_SLOT => !in_slot(plan, number),
+        Kind::CHOICES_ARE_IN_SAME_SLOT => same_slot(plan, left_of(number), right_of(number)),
+        Kind::CHOICES_ARE_NOT_IN_SAME_SLOT => slots_differ(plan, left_of(number), right_of(number)),
+        Kind::CHOICES_HAVE_OFFSET => keeps_offset(
+            plan,
+            left_of(number),
+            right_of(number),
+            extra_of(number),
+        ),
+        Kind::SLOT_HAS_LIMITED_SIZE => op_holds(
+            extra_of(number),
+            size_of(sizes, left_of(number)),
+            right_of(number),
+        ),
         _ => false,
     }
 }
 
-// Whether the plan keeps every row, up to the first that it breaks.
+// Whether the plan keeps every row, from the last to the first: a countdown to 0 costs one instruction a row less.
 pub(crate) fn keeps_rows(rows: &[u64], plan: &[u8], sizes: &[u32; 24]) -> bool
     requires { ⌜ Sizes (now plan) (now sizes) ⌝ }
     ensures { λ r. ⌜ r ≡ keepsRows (now (plan .entry)) (now (rows .entry)) ⌝ }
 {
-    let mut i = 0;
-    while i < rows.len() {
-        if !keeps_row(Row::of(rows[i]), plan, sizes) {
+    let mut left = rows.len();
+    while 0 < left {
+        left -= 1;
+        if !keeps_row(rows[left], plan, sizes) {
             return false;
         }
-        i += 1;
     }
     true
 }

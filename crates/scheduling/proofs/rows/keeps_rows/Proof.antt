@@ -1,49 +1,47 @@
 -- The loop's invariant: the rows that are left decide.
-use mathlib.Core.Path.{_≡_, sym, _∙_, ap}
-use Prim.Native.Nat.{_≤_, _-_}
+use mathlib.Core.Path.{_≡_, sym, _∙_}
+use Prim.Native.Nat.{_≤_}
 use lib.ListN.{length}
 use borrow.Author.Tests.{not-true, not-false}
-use Rattle.scheduling.specs.Rows.{keepsRow}
 use Rattle.scheduling.proofs.RowLaws.{RowsLeft, rows-start, rows-next, rows-broken, rows-kept}
 use borrow.Author.Needs.{needs}
 use Rattle.scheduling.proofs.rows.keeps_rows.Statement.{statement}
 use Rattle.scheduling.proofs.rows.keeps_rows.Tie as tie
 
 abbrev Inv-loop : tie.InvT-loop
-Inv-loop rows plan sizes i₀ i = (i ≤ length rows) × RowsLeft plan rows i
+Inv-loop rows plan sizes left₀ left = (left ≤ length rows) × RowsLeft plan rows left
 
 abbrev μ-loop : tie.MeasureT-loop
-μ-loop rows plan sizes i₀ i = length rows - i
+μ-loop rows plan sizes left₀ left = left
 
 loop-holds : tie.Need-loop-holds Inv-loop μ-loop
 loop-holds c =
     (search needs, rows-start _ _)
 
-mul-of : tie.Need-mul-of Inv-loop μ-loop
-mul-of c = search needs
+sub-left : tie.Need-sub-left Inv-loop μ-loop
+sub-left c = search needs
 
-shared-slice-read-of : tie.Need-shared-slice-read-of Inv-loop μ-loop
-shared-slice-read-of c = search needs
+mul-keeps-row : tie.Need-mul-keeps-row Inv-loop μ-loop
+mul-keeps-row c = search needs
 
-of-requires : tie.Need-of-requires Inv-loop μ-loop
-of-requires c κs = search needs
+shared-slice-read-keeps-row : tie.Need-shared-slice-read-keeps-row Inv-loop μ-loop
+shared-slice-read-keeps-row c = search needs
 
 keeps-row-requires : tie.Need-keeps-row-requires Inv-loop μ-loop
 keeps-row-requires c κs = search needs
 
 returns : tie.Need-returns Inv-loop μ-loop
 returns c =
-    sym (rows-broken _ _ _ (c .before .before .before .before .loop-test .taken) (c .before .before .before .before .before .loop .inv .1) (ap (keepsRow _) (sym (c .before .before .of .ensures)) ∙ sym (c .before .keeps-row .ensures) ∙ not-true _ (c .if1 .taken)))
-
-add-i : tie.Need-add-i Inv-loop μ-loop
-add-i c = search needs
+    let l = c .before .before .before .before .loop in
+    sym (rows-broken _ _ _ (c .before .before .before .loop-test .taken) (l .inv .0) (l .inv .1) (sym (c .before .keeps-row .ensures) ∙ not-true _ (c .if1 .taken)))
 
 loop-less : tie.Need-loop-less Inv-loop μ-loop
 loop-less c = search needs
 
 loop-again : tie.Need-loop-again Inv-loop μ-loop
 loop-again c =
-    (search needs, rows-next _ _ _ (c .before .before .before .before .loop-test .taken) (c .before .before .before .before .before .loop .inv .1) (ap (keepsRow _) (sym (c .before .before .of .ensures)) ∙ sym (c .before .keeps-row .ensures) ∙ not-false _ (c .if1 .left)))
+    let l = c .before .before .before .before .loop in
+    (search needs, rows-next _ _ _ (c .before .before .before .loop-test .taken) (l .inv .0) (l .inv .1) (sym (c .before .keeps-row .ensures) ∙ not-false _ (c .if1 .left)))
 
 returns-2 : tie.Need-returns-2 Inv-loop μ-loop
 returns-2 c =
@@ -56,12 +54,11 @@ keeps-rows-spec =
     Inv-loop
     μ-loop
     loop-holds
-    mul-of
-    shared-slice-read-of
-    of-requires
+    sub-left
+    mul-keeps-row
+    shared-slice-read-keeps-row
     keeps-row-requires
     returns
-    add-i
     loop-less
     loop-again
     returns-2)
