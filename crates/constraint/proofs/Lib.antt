@@ -3,6 +3,7 @@ pub mod CheckLaws
 pub mod CountLaws
 pub mod KeptLaws
 pub mod KindLaws
+pub mod LineLaws
 pub mod Numbers
 pub mod Outcomes
 pub mod RowBytes

@@ -3,3 +3,4 @@ pub mod Kind
 pub mod Op
 pub mod Refusal
 pub mod Row
+pub mod Lines

@@ -6,6 +6,10 @@ use super::op::Op;
 use super::refusal::Refusal;
 use super::row::Row;
 ghost use mathlib.Core.Path.{_≡_};
+ghost use mathlib.Core.Bool.{true};
+ghost use Rattle.constraint.specs.Kind.{columnsOf};
+ghost use Rattle.constraint.specs.Row.{rowOf};
+ghost use Rattle.constraint.specs.Lines.{onLeft, onRight, onExtra};
 ghost use Rattle.constraint.specs.Check.{takesPart, columnHolds, faultOf, rowKeeps, mostRows, countsInRange, rowsOf, checkOf};
 
 // A day's counts as a call is given them: any numbers.
@@ -103,17 +107,114 @@ pub fn fault_of(counts: Counts, takes: Takes, row: Row) -> Fault
     Fault::None
 }
 
-// Whether a number of a pool stands for a row that keeps the table.
+// Whether a left column may hold the value: no line that a call takes names more than these three there.
+fn left_holds(counts: Counts, names: Name, value: u16) -> bool
+    requires { ⌜ onLeft names ≡ true ⌝ }
+    ensures { λ r. ⌜ r ≡ columnHolds counts names value ⌝ }
+{
+    match names {
+        Name::Choice => (value as usize) < counts.choices,
+        Name::Slot => (value as usize) < counts.slots,
+        _ => (value as usize) < counts.choosers,
+    }
+}
+
+// Whether a right column may hold the value: those three, or any limit.
+fn right_holds(counts: Counts, names: Name, value: u16) -> bool
+    requires { ⌜ onRight names ≡ true ⌝ }
+    ensures { λ r. ⌜ r ≡ columnHolds counts names value ⌝ }
+{
+    match names {
+        Name::Choice => (value as usize) < counts.choices,
+        Name::Slot => (value as usize) < counts.slots,
+        Name::Chooser => (value as usize) < counts.choosers,
+        _ => true,
+    }
+}
+
+// Whether an extra column may hold the value: an offset, an op, or nothing.
+fn extra_holds(counts: Counts, names: Name, value: u16) -> bool
+    requires { ⌜ onExtra names ≡ true ⌝ }
+    ensures { λ r. ⌜ r ≡ columnHolds counts names value ⌝ }
+{
+    match names {
+        Name::Offset => value > 0,
+        Name::Op => Op::is_op(value),
+        _ => value == Row::NO_EXTRA,
+    }
+}
+
+// The kind of a number's row. Each column has its function, so that no more of the number is taken apart than is judged.
+fn kind_of(number: u64) -> u16
+    ensures { λ r. ⌜ r ≡ rowOf number .kind ⌝ }
+{
+    Row::of(number).kind
+}
+
+// The left column of a number's row.
+fn left_of(number: u64) -> u16
+    ensures { λ r. ⌜ r ≡ rowOf number .left ⌝ }
+{
+    Row::of(number).left
+}
+
+// The right column of a number's row.
+fn right_of(number: u64) -> u16
+    ensures { λ r. ⌜ r ≡ rowOf number .right ⌝ }
+{
+    Row::of(number).right
+}
+
+// The extra column of a number's row.
+fn extra_of(number: u64) -> u16
+    ensures { λ r. ⌜ r ≡ rowOf number .extra ⌝ }
+{
+    Row::of(number).extra
+}
+
+// Whether a number's row keeps the line of its kind.
+fn keeps_line(counts: Counts, takes: Takes, columns: Columns, number: u64) -> bool
+    requires { ⌜ columns ≡ columnsOf (rowOf number .kind) ⌝ }
+    ensures { λ r. ⌜ r ≡ rowKeeps counts takes number ⌝ }
+{
+    let part = columns.0;
+    if !takes_part(takes, part) {
+        return false;
+    }
+    let left = columns.1;
+    if !left_holds(counts, left, left_of(number)) {
+        return false;
+    }
+    let right = columns.2;
+    if !right_holds(counts, right, right_of(number)) {
+        return false;
+    }
+    let extra = columns.3;
+    extra_holds(counts, extra, extra_of(number))
+}
+
+// Whether a number of a pool stands for a row that keeps the table. Each arm reads the line at its own code, so that what the line names is known in it, and nothing of the table is read or told apart row by row.
 pub fn row_keeps(counts: Counts, takes: Takes, number: u64) -> bool
     ensures { λ r. ⌜ r ≡ rowKeeps counts takes number ⌝ }
 {
-    let fault = fault_of(counts, takes, Row::of(number));
-    match fault {
-        Fault::None => true,
-        Fault::Kind => false,
-        Fault::Left => false,
-        Fault::Right => false,
-        Fault::Extra => false,
+    let kind = kind_of(number);
+    match kind {
+        1 => keeps_line(counts, takes, Columns::of(1), number),
+        2 => keeps_line(counts, takes, Columns::of(2), number),
+        3 => keeps_line(counts, takes, Columns::of(3), number),
+        4 => keeps_line(counts, takes, Columns::of(4), number),
+        5 => keeps_line(counts, takes, Columns::of(5), number),
+        6 => keeps_line(counts, takes, Columns::of(6), number),
+        7 => keeps_line(counts, takes, Columns::of(7), number),
+        8 => keeps_line(counts, takes, Columns::of(8), number),
+        9 => keeps_line(counts, takes, Columns::of(9), number),
+        10 => keeps_line(counts, takes, Columns::of(10), number),
+        11 => keeps_line(counts, takes, Columns::of(11), number),
+        12 => keeps_line(counts, takes, Columns::of(12), number),
+        13 => keeps_line(counts, takes, Columns::of(13), number),
+        14 => keeps_line(counts, takes, Columns::of(14), number),
+        15 => keeps_line(counts, takes, Columns::of(15), number),
+        _ => keeps_line(counts, takes, Columns::of(kind), number),
     }
 }
 

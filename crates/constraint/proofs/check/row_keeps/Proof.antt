@@ -1,64 +1,239 @@
--- The row is the number's, and its fault is the arm's.
-use mathlib.Core.Path.{sym, _∙_}
-use Rattle.constraint.proofs.CheckLaws.{keeps-by}
+-- Each arm reads the line of the code that it matched, which is the row's kind.
+use mathlib.Core.Path.{_≡_, sym, _∙_, ap}
+use Rattle.constraint.specs.Kind.{columnsOf}
 use borrow.Author.Needs.{needs}
 use Rattle.constraint.proofs.check.row_keeps.Statement.{statement}
 use Rattle.constraint.proofs.check.row_keeps.Tie as tie
 
+kind-of-requires : tie.Need-kind-of-requires
+kind-of-requires c κs = search needs
+
 of-requires : tie.Need-of-requires
 of-requires c κs = search needs
 
-fault-of-requires : tie.Need-fault-of-requires
-fault-of-requires c κs = search needs
+keeps-line-requires : tie.Need-keeps-line-requires
+keeps-line-requires c κs =
+    c .of .ensures ∙ ap columnsOf (sym (c .before .match .keys1) ∙ c .before .before .kind-of .ensures)
 
-enum-told : tie.Need-enum-told
-enum-told c = search needs
+of-requires-2 : tie.Need-of-requires-2
+of-requires-2 c κs = search needs
 
-enum-told-2 : tie.Need-enum-told-2
-enum-told-2 c = search needs
+keeps-line-requires-2 : tie.Need-keeps-line-requires-2
+keeps-line-requires-2 c κs =
+    c .of2 .ensures ∙ ap columnsOf (sym (c .before .match .keys2) ∙ c .before .before .kind-of .ensures)
 
-enum-told-3 : tie.Need-enum-told-3
-enum-told-3 c = search needs
+of-requires-3 : tie.Need-of-requires-3
+of-requires-3 c κs = search needs
 
-enum-told-4 : tie.Need-enum-told-4
-enum-told-4 c = search needs
+keeps-line-requires-3 : tie.Need-keeps-line-requires-3
+keeps-line-requires-3 c κs =
+    c .of3 .ensures ∙ ap columnsOf (sym (c .before .match .keys3) ∙ c .before .before .kind-of .ensures)
 
-enum-told-5 : tie.Need-enum-told-5
-enum-told-5 c = search needs
+of-requires-4 : tie.Need-of-requires-4
+of-requires-4 c κs = search needs
+
+keeps-line-requires-4 : tie.Need-keeps-line-requires-4
+keeps-line-requires-4 c κs =
+    c .of4 .ensures ∙ ap columnsOf (sym (c .before .match .keys4) ∙ c .before .before .kind-of .ensures)
+
+of-requires-5 : tie.Need-of-requires-5
+of-requires-5 c κs = search needs
+
+keeps-line-requires-5 : tie.Need-keeps-line-requires-5
+keeps-line-requires-5 c κs =
+    c .of5 .ensures ∙ ap columnsOf (sym (c .before .match .keys5) ∙ c .before .before .kind-of .ensures)
+
+of-requires-6 : tie.Need-of-requires-6
+of-requires-6 c κs = search needs
+
+keeps-line-requires-6 : tie.Need-keeps-line-requires-6
+keeps-line-requires-6 c κs =
+    c .of6 .ensures ∙ ap columnsOf (sym (c .before .match .keys6) ∙ c .before .before .kind-of .ensures)
+
+of-requires-7 : tie.Need-of-requires-7
+of-requires-7 c κs = search needs
+
+keeps-line-requires-7 : tie.Need-keeps-line-requires-7
+keeps-line-requires-7 c κs =
+    c .of7 .ensures ∙ ap columnsOf (sym (c .before .match .keys7) ∙ c .before .before .kind-of .ensures)
+
+of-requires-8 : tie.Need-of-requires-8
+of-requires-8 c κs = search needs
+
+keeps-line-requires-8 : tie.Need-keeps-line-requires-8
+keeps-line-requires-8 c κs =
+    c .of8 .ensures ∙ ap columnsOf (sym (c .before .match .keys8) ∙ c .before .before .kind-of .ensures)
+
+of-requires-9 : tie.Need-of-requires-9
+of-requires-9 c κs = search needs
+
+keeps-line-requires-9 : tie.Need-keeps-line-requires-9
+keeps-line-requires-9 c κs =
+    c .of9 .ensures ∙ ap columnsOf (sym (c .before .match .keys9) ∙ c .before .before .kind-of .ensures)
+
+of-requires-10 : tie.Need-of-requires-10
+of-requires-10 c κs = search needs
+
+keeps-line-requires-10 : tie.Need-keeps-line-requires-10
+keeps-line-requires-10 c κs =
+    c .of10 .ensures ∙ ap columnsOf (sym (c .before .match .keys10) ∙ c .before .before .kind-of .ensures)
+
+of-requires-11 : tie.Need-of-requires-11
+of-requires-11 c κs = search needs
+
+keeps-line-requires-11 : tie.Need-keeps-line-requires-11
+keeps-line-requires-11 c κs =
+    c .of11 .ensures ∙ ap columnsOf (sym (c .before .match .keys11) ∙ c .before .before .kind-of .ensures)
+
+of-requires-12 : tie.Need-of-requires-12
+of-requires-12 c κs = search needs
+
+keeps-line-requires-12 : tie.Need-keeps-line-requires-12
+keeps-line-requires-12 c κs =
+    c .of12 .ensures ∙ ap columnsOf (sym (c .before .match .keys12) ∙ c .before .before .kind-of .ensures)
+
+of-requires-13 : tie.Need-of-requires-13
+of-requires-13 c κs = search needs
+
+keeps-line-requires-13 : tie.Need-keeps-line-requires-13
+keeps-line-requires-13 c κs =
+    c .of13 .ensures ∙ ap columnsOf (sym (c .before .match .keys13) ∙ c .before .before .kind-of .ensures)
+
+of-requires-14 : tie.Need-of-requires-14
+of-requires-14 c κs = search needs
+
+keeps-line-requires-14 : tie.Need-keeps-line-requires-14
+keeps-line-requires-14 c κs =
+    c .of14 .ensures ∙ ap columnsOf (sym (c .before .match .keys14) ∙ c .before .before .kind-of .ensures)
+
+of-requires-15 : tie.Need-of-requires-15
+of-requires-15 c κs = search needs
+
+keeps-line-requires-15 : tie.Need-keeps-line-requires-15
+keeps-line-requires-15 c κs =
+    c .of15 .ensures ∙ ap columnsOf (sym (c .before .match .keys15) ∙ c .before .before .kind-of .ensures)
+
+of-requires-16 : tie.Need-of-requires-16
+of-requires-16 c κs = search needs
+
+keeps-line-requires-16 : tie.Need-keeps-line-requires-16
+keeps-line-requires-16 c κs =
+    c .of16 .ensures ∙ ap columnsOf (c .before .before .kind-of .ensures)
 
 returns : tie.Need-returns
 returns c =
-    keeps-by _ _ _ (c .before .before .before .of .ensures) (sym (c .enum-told .given .1) ∙ c .before .before .fault-of .ensures)
+    c .keeps-line .ensures
 
 returns-2 : tie.Need-returns-2
 returns-2 c =
-    keeps-by _ _ _ (c .before .before .before .of .ensures) (sym (c .enum-told2 .given .1) ∙ c .before .before .fault-of .ensures)
+    c .keeps-line2 .ensures
 
 returns-3 : tie.Need-returns-3
 returns-3 c =
-    keeps-by _ _ _ (c .before .before .before .of .ensures) (sym (c .enum-told3 .given .1) ∙ c .before .before .fault-of .ensures)
+    c .keeps-line3 .ensures
 
 returns-4 : tie.Need-returns-4
 returns-4 c =
-    keeps-by _ _ _ (c .before .before .before .of .ensures) (sym (c .enum-told4 .given .1) ∙ c .before .before .fault-of .ensures)
+    c .keeps-line4 .ensures
 
 returns-5 : tie.Need-returns-5
 returns-5 c =
-    keeps-by _ _ _ (c .before .before .before .of .ensures) (sym (c .enum-told5 .given .1) ∙ c .before .before .fault-of .ensures)
+    c .keeps-line5 .ensures
+
+returns-6 : tie.Need-returns-6
+returns-6 c =
+    c .keeps-line6 .ensures
+
+returns-7 : tie.Need-returns-7
+returns-7 c =
+    c .keeps-line7 .ensures
+
+returns-8 : tie.Need-returns-8
+returns-8 c =
+    c .keeps-line8 .ensures
+
+returns-9 : tie.Need-returns-9
+returns-9 c =
+    c .keeps-line9 .ensures
+
+returns-10 : tie.Need-returns-10
+returns-10 c =
+    c .keeps-line10 .ensures
+
+returns-11 : tie.Need-returns-11
+returns-11 c =
+    c .keeps-line11 .ensures
+
+returns-12 : tie.Need-returns-12
+returns-12 c =
+    c .keeps-line12 .ensures
+
+returns-13 : tie.Need-returns-13
+returns-13 c =
+    c .keeps-line13 .ensures
+
+returns-14 : tie.Need-returns-14
+returns-14 c =
+    c .keeps-line14 .ensures
+
+returns-15 : tie.Need-returns-15
+returns-15 c =
+    c .keeps-line15 .ensures
+
+returns-16 : tie.Need-returns-16
+returns-16 c =
+    c .keeps-line16 .ensures
 
 pub row-keeps-spec : {M : Type 1} → statement M
 row-keeps-spec =
     tie.close
     (tie.spec
+    kind-of-requires
     of-requires
-    fault-of-requires
-    enum-told
-    enum-told-2
-    enum-told-3
-    enum-told-4
-    enum-told-5
+    keeps-line-requires
+    of-requires-2
+    keeps-line-requires-2
+    of-requires-3
+    keeps-line-requires-3
+    of-requires-4
+    keeps-line-requires-4
+    of-requires-5
+    keeps-line-requires-5
+    of-requires-6
+    keeps-line-requires-6
+    of-requires-7
+    keeps-line-requires-7
+    of-requires-8
+    keeps-line-requires-8
+    of-requires-9
+    keeps-line-requires-9
+    of-requires-10
+    keeps-line-requires-10
+    of-requires-11
+    keeps-line-requires-11
+    of-requires-12
+    keeps-line-requires-12
+    of-requires-13
+    keeps-line-requires-13
+    of-requires-14
+    keeps-line-requires-14
+    of-requires-15
+    keeps-line-requires-15
+    of-requires-16
+    keeps-line-requires-16
     returns
     returns-2
     returns-3
     returns-4
-    returns-5)
+    returns-5
+    returns-6
+    returns-7
+    returns-8
+    returns-9
+    returns-10
+    returns-11
+    returns-12
+    returns-13
+    returns-14
+    returns-15
+    returns-16)
