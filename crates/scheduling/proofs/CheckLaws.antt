@@ -8,8 +8,9 @@ use borrow.Author.Tests.{lt-ltb, le-ltb, le-leb, lt-leb, eq-eqb, ne-eqb, eqb-tru
 use lib.Dec.{eqb, ltb, leb}
 use lib.ListN.{length, getD, drop}
 use Rattle.lists.specs.All.{allOf}
-use Rattle.lists.proofs.All.{all-passes, all-fails, all-passed}
-use Rattle.lists.proofs.Below.{and-left, and-right}
+use Rattle.lists.specs.Below.{allBelow}
+use Rattle.lists.proofs.All.{all-passes, all-fails, all-passed, each-allOf}
+use Rattle.lists.proofs.Below.{all-each, and-left, and-right}
 use Rattle.constraint.specs.Check.{countsInRange, rowsOf}
 use Rattle.constraint.specs.declared.check.Takes.the-variants.{Scheduling}
 use Rattle.constraint.specs.declared.check.Checked.{Checked}
@@ -18,9 +19,12 @@ use Rattle.constraint.specs.declared.refusal.Refusal.{Refusal}
 use Rattle.constraint.specs.declared.refusal.Refusal.the-variants as refusal
 use Rattle.constraint.proofs.CountLaws.{Within, within}
 use Rattle.scheduling.specs.Day.{Day}
-use Rattle.scheduling.specs.Feasible.{lengthsFit, feasible, isFeasible}
-use Rattle.scheduling.specs.Check.{cellFits, flagFits, orElse, cellsOf, judgeOf, planCheckOf}
+use Rattle.scheduling.specs.Feasible.{omissionAllowed, placeAllowed, placesAllowed, slotFits, lengthsFit, feasible, isFeasible}
+use Rattle.scheduling.specs.Plan.{slotOf}
+use Rattle.scheduling.specs.Rows.{keepsRows}
+use Rattle.scheduling.specs.Check.{cellFits, flagFits, orElse, cellsOf, beforeCells, judgeOf, planCheckOf}
 use Rattle.scheduling.specs.declared.plan_check.PlanChecked.the-variants.{Feasible, Infeasible, Refused}
+use Rattle.scheduling.proofs.PlanLaws.{slot-at}
 use Rattle.scheduling.proofs.FeasibleLaws.{worker-agrees}
 
 -- a plan cell
@@ -95,32 +99,26 @@ module _ (slots : ℕ) (optional plan : List ℕ) where
   unfolding cellsOf
   good-cells c h = rw (c, h)
 
--- the refusals in their order
+-- the refusals before the cells', in their order
 module _ (day : Day) (plan : List ℕ) where
-  pub judge-count : countsInRange (day .counts) Scheduling ≡ false → checked.Refused refusal.Count ≡ judgeOf day plan
-  unfolding judgeOf
-  judge-count h = rw h
+  pub before-count : countsInRange (day .counts) Scheduling ≡ false → checked.Refused refusal.Count ≡ beforeCells day plan
+  unfolding beforeCells
+  before-count h = rw h
 
   module _ (c : countsInRange (day .counts) Scheduling ≡ true) where
-    pub judge-length : lengthsFit (day .counts .choices) (day .mins) (day .maxs) (day .optional) plan ≡ false
-        → checked.Refused refusal.Length ≡ judgeOf day plan
-    unfolding judgeOf
-    judge-length h = rw (c, h)
+    pub before-length : lengthsFit (day .counts .choices) (day .mins) (day .maxs) (day .optional) plan ≡ false
+        → checked.Refused refusal.Length ≡ beforeCells day plan
+    unfolding beforeCells
+    before-length h = rw (c, h)
 
     module _ (l : lengthsFit (day .counts .choices) (day .mins) (day .maxs) (day .optional) plan ≡ true) where
-      pub judge-rows-length : (length (day .rows) ≡ day .counts .rows → ⊥) → checked.Refused refusal.Length ≡ judgeOf day plan
-      unfolding judgeOf
-      judge-rows-length n = rw (c, l, ne-eqb _ _ n)
+      pub before-rows-length : (length (day .rows) ≡ day .counts .rows → ⊥) → checked.Refused refusal.Length ≡ beforeCells day plan
+      unfolding beforeCells
+      before-rows-length n = rw (c, l, ne-eqb _ _ n)
 
-      pub judge-row : {why : Refusal} → length (day .rows) ≡ day .counts .rows → rowsOf (day .counts) Scheduling (day .rows) ≡ checked.Refused why
-          → checked.Refused why ≡ judgeOf day plan
-      unfolding judgeOf
-      judge-row e r = rw (c, l, eq-eqb _ _ e, r)
-
-      pub judge-cells : length (day .rows) ≡ day .counts .rows → rowsOf (day .counts) Scheduling (day .rows) ≡ checked.Good
-          → cellsOf (day .counts .slots) (day .optional) plan ≡ judgeOf day plan
-      unfolding judgeOf
-      judge-cells e r = rw (c, l, eq-eqb _ _ e, r)
+      pub before-rows : length (day .rows) ≡ day .counts .rows → rowsOf (day .counts) Scheduling (day .rows) ≡ beforeCells day plan
+      unfolding beforeCells
+      before-rows e = rw (c, l, eq-eqb _ _ e)
 
 -- what isn't refused
 pub record Judged (day : Day) (plan : List ℕ) : Type 0 where
@@ -168,6 +166,64 @@ module _ (day : Day) (plan : List ℕ) where
       let j : Judged day plan = judged h in
       let w : Within (day .counts) Scheduling = within (day .counts) Scheduling (j .in-range) in
       sym (worker-agrees day plan (w .choices) (w .slots) (j .lengths))
+
+  -- the refusals before the cells', and then the cells'
+  judge-splits : judgeOf day plan ≡ orElse (beforeCells day plan) (cellsOf (day .counts .slots) (day .optional) plan)
+  unfolding judgeOf beforeCells
+  judge-splits =
+      splits
+      (countsInRange (day .counts) Scheduling)
+      (lengthsFit (day .counts .choices) (day .mins) (day .maxs) (day .optional) plan && eqb (length (day .rows)) (day .counts .rows))
+      (rowsOf (day .counts) Scheduling (day .rows))
+      (cellsOf (day .counts .slots) (day .optional) plan)
+    where
+      splits : (a b : Bool) (rows cells : Checked)
+          → cond a (cond b (orElse rows cells) (checked.Refused refusal.Length)) (checked.Refused refusal.Count)
+          ≡ orElse (cond a (cond b rows (checked.Refused refusal.Length)) (checked.Refused refusal.Count)) cells
+      splits true true rows cells = refl
+      splits true false rows cells = refl
+      splits false true rows cells = refl
+      splits false false rows cells = refl
+
+  pub judge-before : {why : Refusal} → beforeCells day plan ≡ checked.Refused why → judgeOf day plan ≡ checked.Refused why
+  judge-before h = judge-splits ∙ ap (λ (c : Checked). orElse c (cellsOf (day .counts .slots) (day .optional) plan)) h
+
+  pub judge-after : {c : Checked} → beforeCells day plan ≡ checked.Good → cellsOf (day .counts .slots) (day .optional) plan ≡ c → judgeOf day plan ≡ c
+  judge-after h e = judge-splits ∙ ap (λ (c : Checked). orElse c (cellsOf (day .counts .slots) (day .optional) plan)) h ∙ e
+
+  -- what isn't refused before its cells has a day's shape, so the worker says what the plan check says
+  worker-before : beforeCells day plan ≡ checked.Good → isFeasible day plan ≡ feasible day plan
+  unfolding beforeCells
+  worker-before h =
+      let l = lengthsFit (day .counts .choices) (day .mins) (day .maxs) (day .optional) plan in
+      let r = eqb (length (day .rows)) (day .counts .rows) in
+      let rows = rowsOf (day .counts) Scheduling (day .rows) in
+      let a = good-first (countsInRange (day .counts) Scheduling) (cond (l && r) rows (checked.Refused refusal.Length)) refusal.Count h in
+      let b = good-first (l && r) rows refusal.Length (a .1) in
+      let w : Within (day .counts) Scheduling = within (day .counts) Scheduling (a .0) in
+      sym (worker-agrees day plan (w .choices) (w .slots) (and-left l r (b .0)))
+
+  -- every cell of a feasible plan is a slot or 255
+  feasible-cells : feasible day plan ≡ true → allOf (cellFits (day .counts .slots)) plan ≡ true
+  unfolding feasible placesAllowed placeAllowed omissionAllowed cellFits
+  feasible-cells h =
+      let slots = day .counts .slots in
+      let places = placesAllowed slots (day .optional) plan in
+      let sums = allBelow slots (slotFits (day .counts .choosers) (day .mins) (day .maxs) plan) in
+      let p = and-left places sums (and-left (places && sums) (keepsRows plan (day .rows)) h) in
+      each-allOf (cellFits slots) plan 0 λ k hk.
+      rw (slot-at plan k hk)
+      (placed (ltb (slotOf plan k) slots) (eqb (slotOf plan k) 255) (eqb (getD (day .optional) k 0) 1)
+      (all-each (length plan) (placeAllowed slots (day .optional) plan) p k hk))
+    where
+      placed : (b o f : Bool) → (b || (o && f)) ≡ true → (o || b) ≡ true
+      placed true true f h = refl
+      placed true false f h = refl
+      placed false true f h = refl
+      placed false false f h = h
+
+  pub cells-spared : beforeCells day plan ≡ checked.Good → isFeasible day plan ≡ true → allOf (cellFits (day .counts .slots)) plan ≡ true
+  cells-spared h f = feasible-cells (sym (worker-before h) ∙ f)
 
   -- the call
   pub check-refused : {why : Refusal} → judgeOf day plan ≡ checked.Refused why → Refused why ≡ planCheckOf day plan

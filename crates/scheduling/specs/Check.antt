@@ -35,6 +35,16 @@ cellsOf slots optional plan =
     (cond (allOf flagFits optional) checked.Good (checked.Refused refusal.Optional))
     (checked.Refused refusal.PlanCell)
 
+-- the refusals that come before the cells': 1, 2, 5 with the first bad row
+unfoldable pub beforeCells : Day → List ℕ → Checked
+beforeCells day plan =
+    cond (countsInRange (day .counts) Scheduling)
+    (cond
+    (lengthsFit (day .counts .choices) (day .mins) (day .maxs) (day .optional) plan && eqb (length (day .rows)) (day .counts .rows))
+    (rowsOf (day .counts) Scheduling (day .rows))
+    (checked.Refused refusal.Length))
+    (checked.Refused refusal.Count)
+
 -- the refusals, lowest number first: 1, 2, 5 with the first bad row, 9, 13
 unfoldable pub judgeOf : Day → List ℕ → Checked
 judgeOf day plan =

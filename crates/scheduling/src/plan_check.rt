@@ -9,9 +9,10 @@ use constraint::check::check_each_row;
 use constraint::check::counts_in_range;
 use constraint::refusal::Refusal;
 ghost use mathlib.Core.Path.{_≡_};
+ghost use mathlib.Core.Bool.{true};
 ghost use Rattle.lists.specs.All.{allOf};
 ghost use Rattle.scheduling.specs.Day.{dayOf};
-ghost use Rattle.scheduling.specs.Check.{cellFits, flagFits, cellsOf, judgeOf, planCheckOf};
+ghost use Rattle.scheduling.specs.Check.{cellFits, flagFits, cellsOf, beforeCells, planCheckOf};
 
 // What the plan check answers.
 pub enum PlanChecked {
@@ -58,11 +59,23 @@ pub fn flags_fit(optional: &[u8]) -> bool
     true
 }
 
+// Whether every plan cell is a slot or 255: in a feasible plan it is, so none is looked at again.
+fn cells_known(feasible: bool, slots: usize, plan: &[u8]) -> bool
+    requires { ⌜ (feasible ≡ true → allOf (cellFits slots) (now plan) ≡ true) ⌝ }
+    ensures { λ r. ⌜ r ≡ allOf (cellFits slots) (now (plan .entry)) ⌝ }
+{
+    if feasible {
+        return true;
+    }
+    cells_fit(slots, plan)
+}
+
 // Numbers 9 and 13, in this order.
-fn check_cells(slots: usize, optional: &[u8], plan: &[u8]) -> Checked
+fn check_cells(feasible: bool, slots: usize, optional: &[u8], plan: &[u8]) -> Checked
+    requires { ⌜ (feasible ≡ true → allOf (cellFits slots) (now plan) ≡ true) ⌝ }
     ensures { λ r. ⌜ r ≡ cellsOf slots (now (optional .entry)) (now (plan .entry)) ⌝ }
 {
-    let cells = cells_fit(slots, plan);
+    let cells = cells_known(feasible, slots, plan);
     let flags = flags_fit(optional);
     if !cells {
         return Checked::Refused(Refusal::PlanCell);
@@ -73,7 +86,7 @@ fn check_cells(slots: usize, optional: &[u8], plan: &[u8]) -> Checked
     Checked::Good
 }
 
-// The refusals, lowest number first: 1, 2, 5 with the first bad row, 9, 13.
+// The refusals that come before the cells', lowest number first: 1, 2, 5 with the first bad row.
 fn judge(
     counts: Counts,
     mins: &[u16],
@@ -82,7 +95,7 @@ fn judge(
     rows: &[u64],
     plan: &[u8],
 ) -> Checked
-    ensures { λ r. ⌜ r ≡ judgeOf (dayOf counts (now (mins .entry)) (now (maxs .entry)) (now (optional .entry)) (now (rows .entry))) (now (plan .entry)) ⌝ }
+    ensures { λ r. ⌜ r ≡ beforeCells (dayOf counts (now (mins .entry)) (now (maxs .entry)) (now (optional .entry)) (now (rows .entry))) (now (plan .entry)) ⌝ }
 {
     if !counts_in_range(counts, Takes::Scheduling) {
         return Checked::Refused(Refusal::Count);
@@ -93,14 +106,10 @@ fn judge(
     if rows.len() != counts.rows {
         return Checked::Refused(Refusal::Length);
     }
-    let checked = check_each_row(counts, Takes::Scheduling, rows);
-    if let Checked::Refused(why) = checked {
-        return Checked::Refused(why);
-    }
-    check_cells(counts.slots, optional, plan)
+    check_each_row(counts, Takes::Scheduling, rows)
 }
 
-// The plan check: refused, feasible or not.
+// The plan check: refused, feasible or not. The cells come last, since the worker's answer may spare them.
 pub fn check_plan(
     counts: Counts,
     mins: &[u16],
@@ -115,7 +124,12 @@ pub fn check_plan(
     if let Checked::Refused(why) = judged {
         return PlanChecked::Refused(why);
     }
-    if is_feasible(counts, mins, maxs, optional, rows, plan) {
+    let feasible = is_feasible(counts, mins, maxs, optional, rows, plan);
+    let cells = check_cells(feasible, counts.slots, optional, plan);
+    if let Checked::Refused(why) = cells {
+        return PlanChecked::Refused(why);
+    }
+    if feasible {
         return PlanChecked::Feasible;
     }
     PlanChecked::Infeasible

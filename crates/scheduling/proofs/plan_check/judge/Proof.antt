@@ -1,7 +1,7 @@
 -- Each return is one law: the tests before it hold, and its own does not.
 use mathlib.Core.Path.{_≡_, sym, _∙_}
 use borrow.Author.Tests.{not-true, not-false}
-use Rattle.scheduling.proofs.CheckLaws.{judge-count, judge-length, judge-rows-length, judge-row, judge-cells}
+use Rattle.scheduling.proofs.CheckLaws.{before-count, before-length, before-rows-length, before-rows}
 use borrow.Author.Needs.{needs}
 use Rattle.scheduling.proofs.plan_check.judge.Statement.{statement}
 use Rattle.scheduling.proofs.plan_check.judge.Tie as tie
@@ -11,38 +11,25 @@ counts-in-range-requires c κs = search needs
 
 returns : tie.Need-returns
 returns c =
-    judge-count _ _ (sym (c .before .counts-in-range .ensures) ∙ not-true _ (c .if1 .taken))
+    before-count _ _ (sym (c .before .counts-in-range .ensures) ∙ not-true _ (c .if1 .taken))
 
 lengths-fit-requires : tie.Need-lengths-fit-requires
 lengths-fit-requires c κs = search needs
 
 returns-2 : tie.Need-returns-2
 returns-2 c =
-    judge-length _ _ (sym (c .before .before .before .counts-in-range .ensures) ∙ not-false _ (c .before .before .if1 .left)) (sym (c .before .lengths-fit .ensures) ∙ not-true _ (c .if2 .taken))
+    before-length _ _ (sym (c .before .before .before .counts-in-range .ensures) ∙ not-false _ (c .before .before .if1 .left)) (sym (c .before .lengths-fit .ensures) ∙ not-true _ (c .if2 .taken))
 
 returns-3 : tie.Need-returns-3
 returns-3 c =
-    judge-rows-length _ _ (sym (c .before .before .before .before .before .counts-in-range .ensures) ∙ not-false _ (c .before .before .before .before .if1 .left)) (sym (c .before .before .before .lengths-fit .ensures) ∙ not-false _ (c .before .before .if2 .left)) (c .if3 .taken)
+    before-rows-length _ _ (sym (c .before .before .before .before .before .counts-in-range .ensures) ∙ not-false _ (c .before .before .before .before .if1 .left)) (sym (c .before .before .before .lengths-fit .ensures) ∙ not-false _ (c .before .before .if2 .left)) (c .if3 .taken)
 
 check-each-row-requires : tie.Need-check-each-row-requires
 check-each-row-requires c κs = search needs
 
-enum-known-checked : tie.Need-enum-known-checked
-enum-known-checked c = search needs
-
 returns-4 : tie.Need-returns-4
 returns-4 c =
-    judge-row _ _ (sym (c .before .before .before .before .before .before .before .before .before .counts-in-range .ensures) ∙ not-false _ (c .before .before .before .before .before .before .before .before .if1 .left)) (sym (c .before .before .before .before .before .before .before .lengths-fit .ensures) ∙ not-false _ (c .before .before .before .before .before .before .if2 .left)) (c .before .before .before .before .if3 .left) (sym (c .before .before .before .check-each-row .ensures) ∙ c .before .checked .given .1)
-
-enum-told : tie.Need-enum-told
-enum-told c = search needs
-
-check-cells-requires : tie.Need-check-cells-requires
-check-cells-requires c κs = search needs
-
-returns-5 : tie.Need-returns-5
-returns-5 c =
-    c .check-cells .ensures ∙ judge-cells _ _ (sym (c .before .before .before .before .before .before .before .before .before .counts-in-range .ensures) ∙ not-false _ (c .before .before .before .before .before .before .before .before .if1 .left)) (sym (c .before .before .before .before .before .before .before .lengths-fit .ensures) ∙ not-false _ (c .before .before .before .before .before .before .if2 .left)) (c .before .before .before .before .if3 .left) (sym (c .before .before .before .check-each-row .ensures) ∙ c .before .enum-told .given .1)
+    c .check-each-row .ensures ∙ before-rows _ _ (sym (c .before .before .before .before .before .before .counts-in-range .ensures) ∙ not-false _ (c .before .before .before .before .before .if1 .left)) (sym (c .before .before .before .before .lengths-fit .ensures) ∙ not-false _ (c .before .before .before .if2 .left)) (c .before .if3 .left)
 
 pub judge-spec : {M : Type 1} → statement M
 judge-spec =
@@ -54,8 +41,4 @@ judge-spec =
     returns-2
     returns-3
     check-each-row-requires
-    enum-known-checked
-    returns-4
-    enum-told
-    check-cells-requires
-    returns-5)
+    returns-4)
