@@ -1,4 +1,4 @@
-"""The benchmark's inputs: days of a training corridor, rows that expand, a file at its limits.
+"""The benchmark's inputs: days of a training corridor, rows that expand, a file at its limits, days to list.
 
 The records are as the oracle's README.md gives them, without answers.
 """
@@ -13,7 +13,7 @@ ORACLE = Path(__file__).resolve().parent.parent / "oracle"
 sys.path.insert(0, str(ORACLE))
 sys.dont_write_bytecode = True
 import scope  # noqa: E402
-from cases import plan_check, reduction  # noqa: E402
+from cases import listing, plan_check, reduction  # noqa: E402
 from cases.common import Draws, parts, random_row, record, row, u16s  # noqa: E402
 
 SEED = 2_001
@@ -139,6 +139,23 @@ def full_file():
     return file
 
 
+# Listings: a day of which few starts become full, and one of which most do.
+
+
+def few_full_starts():
+    """Nine stations that fit anywhere, then two that need a whole block each: few starts have two left."""
+    mins = [1, 2, 1, 0, 2, 1, 3, 1, 2, 40, 40]
+    rows = [row(4, 0, 1), row(2, 3, 0), row(5, 2, 4, 1)]
+    return listing.body(4, 40, rows, mins, [40] * 11, [0] * 8 + [1, 0, 0])
+
+
+def many_full_starts():
+    """Ten stations that fit nearly anywhere, three of them optional."""
+    mins = [3, 5, 2, 4, 6, 1, 3, 2, 5, 4]
+    rows = [row(4, 0, 1), row(2, 3, 0), row(3, 2, 6), row(5, 4, 5, 1), row(6, 1, 5, -2), row(4, 7, 8)]
+    return listing.body(3, 24, rows, mins, [24] * 10, [0, 1, 0, 0, 1, 0, 0, 0, 0, 1])
+
+
 # Each set: the part that takes it, and what makes it.
 SETS = {
     "plans that pass": ("plan_check", lambda: feasible_plans(range(1, 7))),
@@ -149,6 +166,8 @@ SETS = {
     "rows, lists of choosers": ("reduction", lambda: reductions(chooser_lists)),
     "rows, groups and choosers": ("reduction", lambda: reductions(groups_and_choosers)),
     "a file of 26,827 bytes": ("day_file", lambda: [full_file()]),
+    "a day with few full starts": ("listing", lambda: [few_full_starts()]),
+    "a day with many full starts": ("listing", lambda: [many_full_starts()]),
 }
 
 

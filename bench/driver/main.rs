@@ -3,7 +3,8 @@
 //! `driver PART INPUTS ROUNDS` reads the inputs (records as the oracle's README.md gives
 //! them), has every side answer each of them, compares the answers, and runs each side so
 //! many rounds more. It prints a line for each side: the function that callgrind is asked
-//! for, the calls it got, and the nanoseconds a call in the best round.
+//! for, the calls it got, and the nanoseconds a call in the best round. The listing prints
+//! what it counted besides, a name and a number to a line.
 
 // The published files carry more than the benchmark asks for.
 #![allow(dead_code, unused_imports, unused_variables)]
@@ -38,6 +39,8 @@ mod wire;
 
 #[cfg(thalluscrest_read_day)]
 mod day_file;
+#[cfg(thalluscrest_list_plans)]
+mod listing;
 mod measure;
 #[cfg(thalluscrest_is_feasible)]
 mod plan_check;
@@ -87,6 +90,8 @@ fn main() {
         "reduction" => reduction::run(&records, rounds),
         #[cfg(thalluscrest_read_day)]
         "day_file" => day_file::run(&records, rounds),
+        #[cfg(thalluscrest_list_plans)]
+        "listing" => listing::run(&records, rounds),
         _ => panic!("no part {part} in this driver"),
     }
 }

@@ -5,6 +5,8 @@ use constraints::Reduction;
 use constraints::reduce;
 use day_file::read::Read;
 use day_file::read::read_day;
+use listing::list_plans::Listed;
+use listing::list_plans::list_plans;
 use scheduling::feasible::is_feasible;
 use scheduling::plan_check::PlanChecked;
 use scheduling::plan_check::check_plan;
@@ -15,7 +17,8 @@ ghost use Rattle.scheduling.specs.Check.{planCheckOf};
 ghost use Rattle.day_file.specs.Day.{parts};
 ghost use Rattle.day_file.specs.Calls.{readOf};
 ghost use Rattle.constraints.specs.Reduction.{tells, done, reduceOf};
-ghost use Rattle.exports.specs.Answers.{countsOf, planNumber, readNumber, told, numbered, reducedNumber, toldRows, numberedRows};
+ghost use Rattle.listing.specs.Outcome.{listedTells, listOf};
+ghost use Rattle.exports.specs.Answers.{countsOf, planNumber, readNumber, told, numbered, reducedNumber, toldRows, numberedRows, listedNumber, listedCounts, toldPlans, numberedPlans};
 
 // The plan check's answer as a number: 0 not feasible, 1 feasible, 100 more than a refusal's number.
 fn plan_number(answer: PlanChecked) -> u16
@@ -138,4 +141,60 @@ pub extern "C" fn thalluscrest_reduce(
         rows: rows.len(),
     };
     reduced_number(reduce(counts, rows, pool))
+}
+
+// The listing's answer as a number: 0 for plans, whose three counts are written down, 1 out of turns, 100 more than a refusal's number.
+fn listed_number(answer: Listed, numbers: &mut [u64; 3]) -> u16
+    ensures { λ r. ⌜ (r ≡ listedNumber (listedTells answer)) × (now (numbers .exit) ≡ listedCounts (listedTells answer) (now (numbers .entry))) ⌝ }
+{
+    match answer {
+        Listed::Plans {
+            written,
+            total,
+            nodes,
+        } => {
+            *numbers = [written, total, nodes];
+            0
+        }
+        Listed::Turns => 1,
+        Listed::Refused(why) => 100 + why.number() as u16,
+    }
+}
+
+// A page of all the plans: 0, with how many were written, how many there are and the nodes visited; 1 out of turns; 100 more than the number of a refusal.
+#[no_mangle]
+pub extern "C" fn thalluscrest_list_plans(
+    choices: usize,
+    slots: usize,
+    choosers: usize,
+    mins: &[u16],
+    maxs: &[u16],
+    optional: &[u8],
+    rows: &[u64],
+    first: u64,
+    room: u64,
+    budget: u64,
+    buffer: &mut [u8],
+    numbers: &mut [u64; 3],
+) -> u16
+    ensures { λ r. ⌜ toldPlans r (now (numbers .exit)) (now (buffer .exit)) ≡ numberedPlans (now (numbers .entry)) (listOf (dayOf (countsOf choices slots choosers (now (rows .entry))) (now (mins .entry)) (now (maxs .entry)) (now (optional .entry)) (now (rows .entry))) first room budget (now (buffer .entry))) ⌝ }
+{
+    let counts = Counts {
+        choices,
+        slots,
+        choosers,
+        rows: rows.len(),
+    };
+    let answer = list_plans(
+        counts,
+        mins,
+        maxs,
+        optional,
+        rows,
+        first,
+        room,
+        budget,
+        buffer,
+    );
+    listed_number(answer, numbers)
 }
