@@ -31,6 +31,7 @@ module _ (day : Day) (room : ℕ) (buffer : List ℕ) (j : Judged day room buffe
   pub start-walks : {sums : List ℕ} → sums ≡ replicate 24 0 → Walks (day .counts .slots) (day .counts .choosers) (day .mins) (day .optional) 0 sums
   start-walks e =
       record {
+        few-choices = omega (arith, j .few-choices, j .mins-fit);
         few-slots = j .few-slots;
         few-choosers = j .few-choosers;
         flags = j .optional-fits ∙ sym (j .mins-fit);

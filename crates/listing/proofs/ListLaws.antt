@@ -10,7 +10,7 @@ use lib.ListN.{length, getD, set, take, length-set, length-append}
 use lib.Seq.{take-length, length-take-le, take-take, take-set-le, take-suc-set}
 use Rattle.scheduling.specs.Day.{Day}
 use Rattle.listing.specs.Walk.{placesFrom, placeFits, sumsWith, goesTo, sumsTo, ifFeasible, plansFrom, plansAt, plansPast}
-use Rattle.listing.specs.Steps.{Walks, Shaped, Lists, Added, Listing}
+use Rattle.listing.specs.Steps.{Walks, Shaped, Lists, Added, Listing, Onward}
 use Rattle.listing.proofs.PlaceLaws.{places-start, places-next, places-last, slot-fits, slot-over, omission-fits, omission-out, sums-slot, sums-omission, walks-next, walks-slot, sums-back}
 use Rattle.listing.proofs.PageLaws.{none-added, added-more}
 
@@ -38,16 +38,15 @@ module _ (day : Day) (n : ℕ) (start sums : List ℕ) {choice : ℕ} (at : leng
   plans-next slot h = rw (places-next (day .counts .slots) slot h)
 
   plans-slot : (slot : ℕ) {amount : ℕ} → slot < day .counts .slots → amount ≡ getD (day .mins) choice 0 → getD sums slot 0 + amount ≤ day .counts .choosers
-      → plansPast day n start sums slot ≡ plansFrom day n (start ++ (slot ∷ [])) (set sums slot (getD sums slot 0 + amount)) ++ plansPast day n start sums (slot + 1)
+      → plansAt day n start sums slot ≡ plansFrom day n (start ++ (slot ∷ [])) (set sums slot (getD sums slot 0 + amount))
   unfolding plansAt goesTo sumsTo
   plans-slot slot h e f =
-      plans-next slot h
-      ∙ rw (at, slot-fits _ _ (day .mins) (day .optional) sums choice slot h e f, sums-slot _ (day .counts .choosers) (day .mins) (day .optional) sums choice slot h e)
+      rw (at, slot-fits _ _ (day .mins) (day .optional) sums choice slot h e f, sums-slot _ (day .counts .choosers) (day .mins) (day .optional) sums choice slot h e)
 
   plans-over : (slot : ℕ) {amount : ℕ} → slot < day .counts .slots → amount ≡ getD (day .mins) choice 0 → day .counts .choosers < getD sums slot 0 + amount
-      → plansPast day n start sums slot ≡ plansPast day n start sums (slot + 1)
+      → plansAt day n start sums slot ≡ []
   unfolding plansAt goesTo
-  plans-over slot h e f = plans-next slot h ∙ rw (at, slot-over _ _ (day .mins) (day .optional) sums choice slot h e f)
+  plans-over slot h e f = rw (at, slot-over _ _ (day .mins) (day .optional) sums choice slot h e f)
 
   plans-last : plansPast day n start sums (day .counts .slots) ≡ plansAt day n start sums 255
   unfolding plansPast flatMap
@@ -181,76 +180,98 @@ module _ (choice slot : ℕ) {day : Day} {room : ℕ} {plan sums : List ℕ} {to
           kept = g .kept;
         }
 
-  module _ {amount : ℕ} (le : slot ≤ day .counts .slots) (ne : slot ≡ day .counts .slots → ⊥) (e : amount ≡ getD (day .mins) choice 0) where
-    -- a slot that would be over the headcount is passed over
-    module _ (o : day .counts .choosers < getD sums slot 0 + amount) where
-      over-plans : plansPast day (length plan - (choice + 1)) (take choice plan) sums slot ≡ plansPast day (length plan - (choice + 1)) (take choice plan) sums (slot + 1)
-      over-plans = plans-over day (length plan - (choice + 1)) (take choice plan) sums at-start slot (lt-of-le-ne le ne) e o
+  module _ (h : slot < day .counts .slots) where
+    numbers-both : total + (length (plansAt day (length plan - (choice + 1)) (take choice plan) sums slot) + length (plansPast day (length plan - (choice + 1)) (take choice plan) sums (slot + 1))) < 2 ^ 64
+    numbers-both = rw (plans-next day (length plan - (choice + 1)) (take choice plan) sums at-start slot h, length-append) at (l .numbers)
 
-      pub over-requires : Lists day room (choice + 1) plan sums (plansPast day (length plan - (choice + 1)) (take choice plan) sums (slot + 1)) total buffer
-      over-requires = record { shaped = l .shaped; walks = l .walks; numbers = rw over-plans at (l .numbers) }
-
-      pub listing-over : {first total' : ℕ} {plan' sums' buffer' : List ℕ}
-          → Listing first room choice (plansPast day (length plan - (choice + 1)) (take choice plan) sums (slot + 1)) plan plan' sums sums' total total' buffer buffer'
-          → Listing first room choice (plansPast day (length plan - (choice + 1)) (take choice plan) sums slot) plan plan' sums sums' total total' buffer buffer'
-      listing-over g = rw over-plans g
-
-    -- a slot that fits
-    module _ (f : getD sums slot 0 + amount ≤ day .counts .choosers) where
-      abbrev taken : List (List ℕ)
-      taken =
-          plansFrom day (length (set plan choice slot) - (choice + 1)) (take (choice + 1) (set plan choice slot)) (set sums slot (getD sums slot 0 + amount))
-
-      slot-plans : plansPast day (length plan - (choice + 1)) (take choice plan) sums slot
-          ≡ taken ++ plansPast day (length plan - (choice + 1)) (take choice plan) sums (slot + 1)
-      slot-plans =
-          plans-slot day (length plan - (choice + 1)) (take choice plan) sums at-start slot (lt-of-le-ne le ne) e f
-          ∙ ap (λ (k : List (List ℕ)). k ++ plansPast day (length plan - (choice + 1)) (take choice plan) sums (slot + 1))
-          (sym (next-plans choice plan within-plan slot day (set sums slot (getD sums slot 0 + amount))))
-
-      numbers-both : total + (length taken + length (plansPast day (length plan - (choice + 1)) (take choice plan) sums (slot + 1))) < 2 ^ 64
-      numbers-both = rw (slot-plans, length-append) at (l .numbers)
-
-      pub slot-requires : Lists day room (choice + 1) (set plan choice slot) (set sums slot (getD sums slot 0 + amount)) taken total buffer
-      slot-requires =
+    module _ {amount : ℕ} (e : amount ≡ getD (day .mins) choice 0) where
+      -- a slot that would be over the headcount is passed over
+      pub listing-over : {first : ℕ} → day .counts .choosers < getD sums slot 0 + amount
+          → Listing first room choice (plansAt day (length plan - (choice + 1)) (take choice plan) sums slot) plan plan sums sums total total buffer buffer
+      listing-over {first} o =
           record {
-            shaped = shaped-kept (l .shaped) (length-set plan choice slot) refl;
-            walks = walks-slot slot (getD sums slot 0 + amount) (l .walks) (lt-of-le-ne le ne) f;
-            numbers = omega (arith, numbers-both);
+            added = rw (plans-over day (length plan - (choice + 1)) (take choice plan) sums at-start slot h e o) (none-added first room);
+            start = refl;
+            kept = refl;
           }
 
-      -- and the places from the next one on
-      module _ {first total₁ : ℕ} {plan₁ sums₁ buffer₁ : List ℕ}
-          (g : Listing first room (choice + 1) taken (set plan choice slot) plan₁ (set sums slot (getD sums slot 0 + amount)) sums₁ total total₁ buffer buffer₁)
-          (p : length plan₁ ≡ length (set plan choice slot)) where
-        back : set sums₁ slot (getD sums slot 0) ≡ sums
-        back = sums-back slot (getD sums slot 0 + amount) (g .kept)
+      -- one that fits goes on to the next choice
+      module _ (f : getD sums slot 0 + amount ≤ day .counts .choosers) where
+        abbrev taken : List (List ℕ)
+        taken =
+            plansFrom day (length (set plan choice slot) - (choice + 1)) (take (choice + 1) (set plan choice slot)) (set sums slot (getD sums slot 0 + amount))
 
-        same-length : length plan₁ ≡ length plan
-        same-length = p ∙ length-set plan choice slot
+        slot-plans : plansAt day (length plan - (choice + 1)) (take choice plan) sums slot ≡ taken
+        slot-plans =
+            plans-slot day (length plan - (choice + 1)) (take choice plan) sums at-start slot h e f
+            ∙ sym (next-plans choice plan within-plan slot day (set sums slot (getD sums slot 0 + amount)))
 
-        same-start : take choice plan₁ ≡ take choice plan
-        same-start = start-kept choice plan within-plan slot plan₁ (g .start)
-
-        rest-plans : plansPast day (length plan₁ - (choice + 1)) (take choice plan₁) (set sums₁ slot (getD sums slot 0)) (slot + 1)
-            ≡ plansPast day (length plan - (choice + 1)) (take choice plan) sums (slot + 1)
-        rest-plans = rw (same-length, same-start, back)
-
-        pub rest-requires : length buffer₁ ≡ length buffer
-            → Lists day room (choice + 1) plan₁ (set sums₁ slot (getD sums slot 0)) (plansPast day (length plan₁ - (choice + 1)) (take choice plan₁) (set sums₁ slot (getD sums slot 0)) (slot + 1)) total₁ buffer₁
-        rest-requires b =
+        pub slot-requires : Lists day room (choice + 1) (set plan choice slot) (set sums slot (getD sums slot 0 + amount)) taken total buffer
+        slot-requires =
             record {
-              shaped = shaped-kept (l .shaped) same-length b;
-              walks = rw back (l .walks);
-              numbers = rw rest-plans (omega (arith, numbers-both, g .added .counted));
+              shaped = shaped-kept (l .shaped) (length-set plan choice slot) refl;
+              walks = walks-slot slot (getD sums slot 0 + amount) (l .walks) h f;
+              numbers = rw (sym slot-plans) (omega (arith, numbers-both));
             }
 
-        pub listing-slot : {total' : ℕ} {plan' sums' buffer' : List ℕ}
-            → Listing first room choice (plansPast day (length plan₁ - (choice + 1)) (take choice plan₁) (set sums₁ slot (getD sums slot 0)) (slot + 1)) plan₁ plan' (set sums₁ slot (getD sums slot 0)) sums' total₁ total' buffer₁ buffer'
-            → Listing first room choice (plansPast day (length plan - (choice + 1)) (take choice plan) sums slot) plan plan' sums sums' total total' buffer buffer'
-        listing-slot d =
+        pub listing-slot : {first total₁ : ℕ} {plan₁ sums₁ buffer₁ : List ℕ}
+            → Listing first room (choice + 1) taken (set plan choice slot) plan₁ (set sums slot (getD sums slot 0 + amount)) sums₁ total total₁ buffer buffer₁
+            → Listing first room choice (plansAt day (length plan - (choice + 1)) (take choice plan) sums slot) plan plan₁ sums (set sums₁ slot (getD sums slot 0)) total total₁ buffer buffer₁
+        listing-slot {plan₁ = plan₁} g =
             record {
-              added = rw slot-plans (added-more first room taken _ (g .added) (rw rest-plans at (d .added)));
-              start = d .start ∙ same-start;
-              kept = d .kept ∙ back;
+              added = rw slot-plans (g .added);
+              start = start-kept choice plan within-plan slot plan₁ (g .start);
+              kept = sums-back slot (getD sums slot 0 + amount) (g .kept);
             }
+
+    -- then the places from the next one on
+    module _ {first total₁ : ℕ} {plan₁ sums₁ buffer₁ : List ℕ}
+        (g : Listing first room choice (plansAt day (length plan - (choice + 1)) (take choice plan) sums slot) plan plan₁ sums sums₁ total total₁ buffer buffer₁)
+        (p : length plan₁ ≡ length plan) where
+      rest-plans : plansPast day (length plan₁ - (choice + 1)) (take choice plan₁) sums₁ (slot + 1)
+          ≡ plansPast day (length plan - (choice + 1)) (take choice plan) sums (slot + 1)
+      rest-plans = rw (p, g .start, g .kept)
+
+      rest-requires : length buffer₁ ≡ length buffer
+          → Lists day room (choice + 1) plan₁ sums₁ (plansPast day (length plan₁ - (choice + 1)) (take choice plan₁) sums₁ (slot + 1)) total₁ buffer₁
+      rest-requires b =
+          record {
+            shaped = shaped-kept (l .shaped) p b;
+            walks = rw (g .kept) (l .walks);
+            numbers = rw rest-plans (omega (arith, numbers-both, g .added .counted));
+          }
+
+      listing-rest : {total' : ℕ} {plan' sums' buffer' : List ℕ}
+          → Listing first room choice (plansPast day (length plan₁ - (choice + 1)) (take choice plan₁) sums₁ (slot + 1)) plan₁ plan' sums₁ sums' total₁ total' buffer₁ buffer'
+          → Listing first room choice (plansPast day (length plan - (choice + 1)) (take choice plan) sums slot) plan plan' sums sums' total total' buffer buffer'
+      listing-rest d =
+          record {
+            added =
+                rw (plans-next day (length plan - (choice + 1)) (take choice plan) sums at-start slot h)
+                (added-more first room _ _ (g .added) (rw rest-plans at (d .added)));
+            start = d .start ∙ g .start;
+            kept = d .kept ∙ g .kept;
+          }
+
+-- ---- the loop over the slots
+
+-- it starts at the first
+pub onward-first : {day : Day} {first room choice : ℕ} {plan sums : List ℕ} {total : ℕ} {buffer : List ℕ}
+    → Lists day room (choice + 1) plan sums (plansPast day (length plan - (choice + 1)) (take choice plan) sums 0) total buffer
+    → Onward day first room choice 0 plan sums total buffer plan sums total buffer
+onward-first l = record { so-far = omega arith; rest = l; same-plan = refl; same-buffer = refl; all = λ g. g }
+
+-- and a place takes it one further on
+pub onward-next : {day : Day} {first room : ℕ} (choice slot : ℕ) {plan₀ sums₀ : List ℕ} {total₀ : ℕ} {buffer₀ plan sums : List ℕ} {total : ℕ} {buffer : List ℕ} {plan₁ sums₁ : List ℕ} {total₁ : ℕ} {buffer₁ : List ℕ}
+    → Onward day first room choice slot plan₀ sums₀ total₀ buffer₀ plan sums total buffer → slot < day .counts .slots
+    → Listing first room choice (plansAt day (length plan - (choice + 1)) (take choice plan) sums slot) plan plan₁ sums sums₁ total total₁ buffer buffer₁
+    → length plan₁ ≡ length plan → length buffer₁ ≡ length buffer
+    → Onward day first room choice (slot + 1) plan₀ sums₀ total₀ buffer₀ plan₁ sums₁ total₁ buffer₁
+onward-next choice slot o h g p b =
+    record {
+      so-far = omega arith;
+      rest = rest-requires choice slot (o .rest) h g p b;
+      same-plan = p ∙ o .same-plan;
+      same-buffer = b ∙ o .same-buffer;
+      all = λ d. o .all (listing-rest choice slot (o .rest) h g p d);
+    }

@@ -73,6 +73,7 @@ pub walks-next : {slots choosers choice : ℕ} {mins optional sums : List ℕ} �
 walks-next {choice = choice} {mins = mins} w n =
     let h : choice < length mins = lt-of-le-ne (w .within) n in
     record {
+      few-choices = w .few-choices;
       few-slots = w .few-slots;
       few-choosers = w .few-choosers;
       flags = w .flags;
@@ -86,6 +87,7 @@ pub walks-slot : {slots choosers choice : ℕ} {mins optional sums : List ℕ} (
     → Walks slots choosers mins optional choice sums → slot < slots → v ≤ choosers → Walks slots choosers mins optional choice (set sums slot v)
 walks-slot {choosers = choosers} {sums = sums} slot v w h f =
     record {
+      few-choices = w .few-choices;
       few-slots = w .few-slots;
       few-choosers = w .few-choosers;
       flags = w .flags;

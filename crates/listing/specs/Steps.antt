@@ -2,14 +2,15 @@
 use mathlib.Core.Path.{_≡_}
 use mathlib.Core.Bool.{Bool, true}
 use mathlib.Core.List.{List}
-use Prim.Native.Nat.{ℕ, _+_, _*_, _≤_, _<_, _^_}
+use Prim.Native.Nat.{ℕ, _+_, _-_, _*_, _≤_, _<_, _^_}
 use lib.Dec.{leb}
 use lib.ListN.{length, getD, take}
 use Rattle.scheduling.specs.Day.{Day}
-use Rattle.listing.specs.Walk.{putPlans}
+use Rattle.listing.specs.Walk.{plansPast, putPlans}
 
 -- a day's shape, and sums that no slot has over the headcount
 pub record Walks (slots choosers : ℕ) (mins optional : List ℕ) (choice : ℕ) (sums : List ℕ) : Type 0 where
+  pub few-choices : length mins ≤ 64
   pub few-slots : slots ≤ 24
   pub few-choosers : choosers ≤ 200
   pub flags : length optional ≡ length mins
@@ -49,6 +50,16 @@ pub record Listing (first room choice : ℕ) (plans : List (List ℕ)) (plan pla
   pub added : Added first room plans total total' buffer buffer'
   pub start : take choice plan' ≡ take choice plan
   pub kept : sums' ≡ sums
+
+-- the loop over the slots of a choice: whatever lists the places from this slot on lists them all
+pub record Onward (day : Day) (first room choice slot : ℕ) (plan₀ sums₀ : List ℕ) (total₀ : ℕ) (buffer₀ plan sums : List ℕ) (total : ℕ) (buffer : List ℕ) : Type 0 where
+  pub so-far : slot ≤ day .counts .slots
+  pub rest : Lists day room (choice + 1) plan sums (plansPast day (length plan - (choice + 1)) (take choice plan) sums slot) total buffer
+  pub same-plan : length plan ≡ length plan₀
+  pub same-buffer : length buffer ≡ length buffer₀
+  pub all : {plan' sums' : List ℕ} {total' : ℕ} {buffer' : List ℕ}
+      → Listing first room choice (plansPast day (length plan - (choice + 1)) (take choice plan) sums slot) plan plan' sums sums' total total' buffer buffer'
+      → Listing first room choice (plansPast day (length plan₀ - (choice + 1)) (take choice plan₀) sums₀ 0) plan₀ plan' sums₀ sums' total₀ total' buffer₀ buffer'
 
 -- what isn't refused: the counts are in range, and every lent slice is as long as they say
 pub record Judged (day : Day) (room : ℕ) (buffer : List ℕ) : Type 0 where

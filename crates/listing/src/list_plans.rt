@@ -161,7 +161,7 @@ fn list_day(
     let mut left = budget;
     let slots = counts.slots;
     let choosers = counts.choosers;
-    if !count_choice(slots, choosers, mins, optional, 0, &mut sums, &mut left) {
+    if !count_choice(slots, choosers, &mins, &optional, 0, &mut sums, &mut left) {
         return Listed::Turns;
     }
     let nodes = budget - left;

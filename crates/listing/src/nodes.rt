@@ -1,6 +1,6 @@
 // The first run counts the nodes against the budget and looks at no plan: out of turns leaves the buffer untouched.
 ghost use mathlib.Core.Path.{_≡_};
-ghost use Prim.Native.Nat.{_+_, _-_, _≤_};
+ghost use Prim.Native.Nat.{_+_, _-_, _≤_, _<_, _^_};
 ghost use lib.ListN.{length, replicate};
 ghost use Rattle.listing.specs.Walk.{nodesFrom, nodesPast};
 ghost use Rattle.listing.specs.Steps.{Walks, Counted};
@@ -14,23 +14,24 @@ pub(crate) fn no_sums() -> [usize; 24]
 
 // A minimum as wide as a sum of them.
 pub(crate) fn wide(amount: u16) -> usize
-    ensures { λ r. ⌜ r ≡ amount ⌝ }
+    ensures { λ r. ⌜ (r ≡ amount) × (r < 2 ^ 16) ⌝ }
 {
     amount as usize
 }
 
 // 'one function per choice': each start that is reached is a node, and spends one of the budget.
+// A slice is copied at each call, a reference to it isn't, and then the call for the next place is a jump.
 pub(crate) fn count_choice(
     slots: usize,
     choosers: usize,
-    mins: &[u16],
-    optional: &[u8],
+    mins: &&[u16],
+    optional: &&[u8],
     choice: usize,
     sums: &mut [usize; 24],
     left: &mut u64,
 ) -> bool
-    requires { ⌜ Walks slots choosers (now mins) (now optional) choice (now sums) ⌝ }
-    ensures { λ r. ⌜ Counted (nodesFrom slots choosers (now (mins .entry)) (now (optional .entry)) (length (now (mins .entry)) - choice) choice (now (sums .entry))) (now (left .entry)) (now (left .exit)) (now (sums .entry)) (now (sums .exit)) r ⌝ }
+    requires { ⌜ Walks slots choosers (now (now mins)) (now (now optional)) choice (now sums) ⌝ }
+    ensures { λ r. ⌜ Counted (nodesFrom slots choosers (now (now (mins .entry))) (now (now (optional .entry))) (length (now (now (mins .entry))) - choice) choice (now (sums .entry))) (now (left .entry)) (now (left .exit)) (now (sums .entry)) (now (sums .exit)) r ⌝ }
 {
     if *left == 0 {
         return false;
@@ -46,15 +47,15 @@ pub(crate) fn count_choice(
 fn count_place(
     slots: usize,
     choosers: usize,
-    mins: &[u16],
-    optional: &[u8],
+    mins: &&[u16],
+    optional: &&[u8],
     choice: usize,
     slot: usize,
     sums: &mut [usize; 24],
     left: &mut u64,
 ) -> bool
-    requires { ⌜ Walks slots choosers (now mins) (now optional) (choice + 1) (now sums) × (slot ≤ slots) ⌝ }
-    ensures { λ r. ⌜ Counted (nodesPast slots choosers (now (mins .entry)) (now (optional .entry)) (length (now (mins .entry)) - (choice + 1)) choice (now (sums .entry)) slot) (now (left .entry)) (now (left .exit)) (now (sums .entry)) (now (sums .exit)) r ⌝ }
+    requires { ⌜ Walks slots choosers (now (now mins)) (now (now optional)) (choice + 1) (now sums) × (slot ≤ slots) ⌝ }
+    ensures { λ r. ⌜ Counted (nodesPast slots choosers (now (now (mins .entry))) (now (now (optional .entry))) (length (now (now (mins .entry))) - (choice + 1)) choice (now (sums .entry)) slot) (now (left .entry)) (now (left .exit)) (now (sums .entry)) (now (sums .exit)) r ⌝ }
 {
     if slot == slots {
         if optional[choice] != 1 {

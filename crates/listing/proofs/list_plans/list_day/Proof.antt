@@ -10,20 +10,20 @@ no-sums-requires c κs = search needs
 
 count-choice-requires : tie.Need-count-choice-requires
 count-choice-requires c κs =
-    start-walks _ _ _ (c .before .before .before .before .before .before .before .before .pre) (c .before .before .no-sums .ensures)
+    start-walks _ _ _ (c .before .before .before .before .before .before .before .before .before .before .pre) (c .before .before .before .before .no-sums .ensures)
 
 returns : tie.Need-returns
 returns c =
-    turns-told _ _ _ (c .before .before .before .before .before .before .before .before .before .before .pre) (c .before .before .before .before .no-sums .ensures) (c .before .count-choice .ensures) _ (not-true _ (c .if1 .taken))
+    turns-told _ _ _ (c .before .before .before .before .before .before .before .before .before .before .before .before .pre) (c .before .before .before .before .before .before .no-sums .ensures) (c .before .count-choice .ensures) _ (not-true _ (c .if1 .taken))
 
 sub-nodes : tie.Need-sub-nodes
 sub-nodes c =
-    left-within _ _ _ (c .before .before .before .before .before .before .before .before .before .before .pre) (c .before .before .before .before .no-sums .ensures) (c .before .count-choice .ensures) (not-false _ (c .if1 .left))
+    left-within _ _ _ (c .before .before .before .before .before .before .before .before .before .before .before .before .pre) (c .before .before .before .before .before .before .no-sums .ensures) (c .before .count-choice .ensures) (not-false _ (c .if1 .left))
 
 list-all-requires : tie.Need-list-all-requires
 list-all-requires c κs =
-    let s = c .before .before .before .before .before .before .before .before .before .before .before in
-    (s .pre, total-fits _ _ _ (s .pre) (c .before .before .before .before .before .no-sums .ensures) (c .before .before .count-choice .ensures) (not-false _ (c .before .if1 .left)) (s .fits .budget .fits))
+    let s = c .before .before .before .before .before .before .before .before .before .before .before .before .before in
+    (s .pre, total-fits _ _ _ (s .pre) (c .before .before .before .before .before .before .before .no-sums .ensures) (c .before .before .count-choice .ensures) (not-false _ (c .before .if1 .left)) (s .fits .budget .fits))
 
 written-of-requires : tie.Need-written-of-requires
 written-of-requires c κs = search needs
@@ -33,7 +33,7 @@ same-length c = search needs
 
 returns-2 : tie.Need-returns-2
 returns-2 c =
-    plans-told _ _ _ (c .before .before .before .before .before .before .before .before .before .before .before .before .before .before .before .pre) (c .before .before .before .before .before .before .before .before .before .no-sums .ensures) (c .before .before .before .before .before .before .count-choice .ensures) (not-false _ (c .before .before .before .before .before .if1 .left)) _ (c .before .before .before .list-all .ensures .0) (c .written-of .ensures) (c .before .before .before .list-all .ensures .1)
+    plans-told _ _ _ (c .before .before .before .before .before .before .before .before .before .before .before .before .before .before .before .before .before .pre) (c .before .before .before .before .before .before .before .before .before .before .before .no-sums .ensures) (c .before .before .before .before .before .before .count-choice .ensures) (not-false _ (c .before .before .before .before .before .if1 .left)) _ (c .before .before .before .list-all .ensures .0) (c .written-of .ensures) (c .before .before .before .list-all .ensures .1)
 
 pub list-day-spec : {M : Type 1} → statement M
 list-day-spec =

@@ -20,31 +20,31 @@ use Rattle.listing.proofs.nodes.wide.Reads as wide-reads
 use Rattle.listing.proofs.nodes.+count_choice+count_place.{statement}
 use Rattle.listing.proofs.nodes.+count_choice+count_place.Tie.{close}
 
-abbrev μ-count-choice : Measures 4 count-choice-kinds.ps ℕ
-μ-count-choice κs a = (length (a .1 .1 .0 .now) - a .1 .1 .1 .1 .0) * 32 + 31
+abbrev μ-count-choice : Measures 6 count-choice-kinds.ps ℕ
+μ-count-choice κs a = (length (a .1 .1 .0 .now .now) - a .1 .1 .1 .1 .0) * 32 + 31
 
-abbrev μ-count-place : Measures 4 count-place-kinds.ps ℕ
-μ-count-place κs a = (length (a .1 .1 .0 .now) - a .1 .1 .1 .1 .0) * 32 + (a .0 - a .1 .1 .1 .1 .1 .0)
+abbrev μ-count-place : Measures 6 count-place-kinds.ps ℕ
+μ-count-place κs a = (length (a .1 .1 .0 .now .now) - a .1 .1 .1 .1 .0) * 32 + (a .0 - a .1 .1 .1 .1 .1 .0)
 
-abbrev count-choice-at : ℕ → In 4 count-choice-kinds.ps
+abbrev count-choice-at : ℕ → In 6 count-choice-kinds.ps
 count-choice-at t =
-    and 4 count-choice-kinds.ps (is 4 count-choice-kinds.ps μ-count-choice t) count-choice.Pre
+    and 6 count-choice-kinds.ps (is 6 count-choice-kinds.ps μ-count-choice t) count-choice.Pre
 
-abbrev count-choice-below : ℕ → In 4 count-choice-kinds.ps
+abbrev count-choice-below : ℕ → In 6 count-choice-kinds.ps
 count-choice-below t =
     and
-    4
+    6
     count-choice-kinds.ps
-    (falls 4 count-choice-kinds.ps _<_ μ-count-choice t)
+    (falls 6 count-choice-kinds.ps _<_ μ-count-choice t)
     count-choice.Pre
 
-abbrev count-place-at : ℕ → In 4 count-place-kinds.ps
+abbrev count-place-at : ℕ → In 6 count-place-kinds.ps
 count-place-at t =
-    and 4 count-place-kinds.ps (is 4 count-place-kinds.ps μ-count-place t) count-place.Pre
+    and 6 count-place-kinds.ps (is 6 count-place-kinds.ps μ-count-place t) count-place.Pre
 
-abbrev count-place-below : ℕ → In 4 count-place-kinds.ps
+abbrev count-place-below : ℕ → In 6 count-place-kinds.ps
 count-place-below t =
-    and 4 count-place-kinds.ps (falls 4 count-place-kinds.ps _<_ μ-count-place t) count-place.Pre
+    and 6 count-place-kinds.ps (falls 6 count-place-kinds.ps _<_ μ-count-place t) count-place.Pre
 
 count-choice-returns : (t : ℕ) → count-choice-lts.Need-returns (
   count-place-below t,
@@ -72,7 +72,7 @@ count-choice-count-place-requires : (t : ℕ) → count-choice-lts.Need-count-pl
   count-place.Post,
 ) (count-choice-at t) count-choice.Post
 count-choice-count-place-requires t c κs =
-    let s = c .before .before .before .before .before .before .before in
+    let s = c .before .before .before .before .before in
     let w = walks-next (s .pre .1) (c .before .before .if2 .left) in
     (omega (arith, s .pre .0, w .few-slots), (w, omega arith))
 
@@ -81,10 +81,10 @@ count-choice-returns-3 : (t : ℕ) → count-choice-lts.Need-returns-3 (
   count-place.Post,
 ) (count-choice-at t) count-choice.Post
 count-choice-returns-3 t c =
-    let s = c .before .before .before .before .before .before .before .before in
+    let s = c .before .before .before .before .before .before in
     counted-on _ _ _ _ _ _ (c .before .before .before .before .if1 .left) (s .pre .1 .within) (c .before .before .before .if2 .left) (c .count-place .ensures)
 
-count-place-shared-slice-read-if2 : (t : ℕ) → count-place-lts.Need-shared-slice-read-if2 (
+count-place-index-1-if2 : (t : ℕ) → count-place-lts.Need-index-1-if2 (
   count-choice-below t,
   count-choice.Post,
   wide-reads.Asked,
@@ -92,8 +92,8 @@ count-place-shared-slice-read-if2 : (t : ℕ) → count-place-lts.Need-shared-sl
   count-place-below t,
   count-place.Post,
 ) (count-place-at t) count-place.Post
-count-place-shared-slice-read-if2 t c =
-    let w = c .before .before .before .before .pre .1 .0 in
+count-place-index-1-if2 t c =
+    let w = c .before .pre .1 .0 in
     omega (arith, w .within, w .flags)
 
 count-place-returns : (t : ℕ) → count-place-lts.Need-returns (
@@ -105,7 +105,7 @@ count-place-returns : (t : ℕ) → count-place-lts.Need-returns (
   count-place.Post,
 ) (count-place-at t) count-place.Post
 count-place-returns t c =
-    let w = c .before .before .before .before .before .pre .1 .0 in
+    let w = c .before .before .before .pre .1 .0 in
     counted-none _ _ _ _ _ _ _ _ (c .before .before .if1 .taken) (w .few-slots) (c .if2 .taken)
 
 count-place-add-count-choice : (t : ℕ) → count-place-lts.Need-add-count-choice (
@@ -117,7 +117,8 @@ count-place-add-count-choice : (t : ℕ) → count-place-lts.Need-add-count-choi
   count-place.Post,
 ) (count-place-at t) count-place.Post
 count-place-add-count-choice t c =
-    search needs
+    let w = c .before .before .before .pre .1 .0 in
+    record { fits = omega (arith, w .within, w .few-choices) }
 
 count-place-count-choice-requires : (t : ℕ) → count-place-lts.Need-count-choice-requires (
   count-choice-below t,
@@ -128,7 +129,7 @@ count-place-count-choice-requires : (t : ℕ) → count-place-lts.Need-count-cho
   count-place.Post,
 ) (count-place-at t) count-place.Post
 count-place-count-choice-requires t c κs =
-    let s = c .before .before .before .before .before .before .before in
+    let s = c .before .before .before .before .before in
     let w = s .pre .1 .0 in
     (omega (arith, s .pre .0, w .within), w)
 
@@ -141,7 +142,7 @@ count-place-returns-2 : (t : ℕ) → count-place-lts.Need-returns-2 (
   count-place.Post,
 ) (count-place-at t) count-place.Post
 count-place-returns-2 t c =
-    let w = c .before .before .before .before .before .before .before .before .pre .1 .0 in
+    let w = c .before .before .before .before .before .before .pre .1 .0 in
     counted-omission _ _ _ _ _ _ _ _ (c .before .before .before .before .before .if1 .taken) (w .few-slots) (c .before .before .before .if2 .left) (c .count-choice .ensures)
 
 count-place-mul-before : (t : ℕ) → count-place-lts.Need-mul-before (
@@ -164,7 +165,7 @@ count-place-element-copy-out-before : (t : ℕ) → count-place-lts.Need-element
   count-place.Post,
 ) (count-place-at t) count-place.Post
 count-place-element-copy-out-before t c =
-    let s = c .before .before .before in
+    let s = c .before in
     let h = lt-of-le-ne (s .pre .1 .1) (c .if1 .left) in
     omega (arith, h, s .pre .1 .0 .few-slots)
 
@@ -177,9 +178,10 @@ count-place-mul-wide : (t : ℕ) → count-place-lts.Need-mul-wide (
   count-place.Post,
 ) (count-place-at t) count-place.Post
 count-place-mul-wide t c =
-    search needs
+    let w = c .before .before .pre .1 .0 in
+    record { fits = omega (arith, w .within, w .few-choices) }
 
-count-place-shared-slice-read-wide : (t : ℕ) → count-place-lts.Need-shared-slice-read-wide (
+count-place-index-1-wide : (t : ℕ) → count-place-lts.Need-index-1-wide (
   count-choice-below t,
   count-choice.Post,
   wide-reads.Asked,
@@ -187,8 +189,8 @@ count-place-shared-slice-read-wide : (t : ℕ) → count-place-lts.Need-shared-s
   count-place-below t,
   count-place.Post,
 ) (count-place-at t) count-place.Post
-count-place-shared-slice-read-wide t c =
-    let w = c .before .before .before .before .before .pre .1 .0 in
+count-place-index-1-wide t c =
+    let w = c .before .before .pre .1 .0 in
     omega (arith, w .within)
 
 count-place-wide-requires : (t : ℕ) → count-place-lts.Need-wide-requires (
@@ -211,9 +213,9 @@ count-place-add-after : (t : ℕ) → count-place-lts.Need-add-after (
   count-place.Post,
 ) (count-place-at t) count-place.Post
 count-place-add-after t c =
-    let s = c .before .before .before .before .before .before in
+    let s = c .before .before .before .before in
     let w = s .pre .1 .0 in
-    omega (arith, w .low (s .args .slot), w .few-choosers, c .wide .ensures, c .before .shared-slice-known4 .given (s .args .choice))
+    omega (arith, w .low (s .args .slot), w .few-choosers, c .wide .ensures .1)
 
 count-place-add-count-place : (t : ℕ) → count-place-lts.Need-add-count-place (
   count-choice-below t,
@@ -235,7 +237,7 @@ count-place-count-place-requires : (t : ℕ) → count-place-lts.Need-count-plac
   count-place.Post,
 ) (count-place-at t) count-place.Post
 count-place-count-place-requires t c κs =
-    let s = c .before .before .before .before .before .before .before .before .before in
+    let s = c .before .before .before .before .before .before .before in
     let w = s .pre .1 .0 in
     let h = lt-of-le-ne (s .pre .1 .1) (c .before .before .before .before .before .before .if1 .left) in
     (omega (arith, s .pre .0, h), (w, omega (arith, h)))
@@ -249,8 +251,8 @@ count-place-returns-3 : (t : ℕ) → count-place-lts.Need-returns-3 (
   count-place.Post,
 ) (count-place-at t) count-place.Post
 count-place-returns-3 t c =
-    let s = c .before .before .before .before .before .before .before .before .before .before in
-    counted-over _ _ _ _ _ _ _ _ (s .pre .1 .1) (c .before .before .before .before .before .before .before .if1 .left) (c .before .before .before .before .wide .ensures) (c .before .before .before .if3 .taken) (c .count-place .ensures)
+    let s = c .before .before .before .before .before .before .before .before in
+    counted-over _ _ _ _ _ _ _ _ (s .pre .1 .1) (c .before .before .before .before .before .before .before .if1 .left) (c .before .before .before .before .wide .ensures .0) (c .before .before .before .if3 .taken) (c .count-place .ensures)
 
 count-place-mul-sums : (t : ℕ) → count-place-lts.Need-mul-sums (
   count-choice-below t,
@@ -272,7 +274,7 @@ count-place-element-write-sums : (t : ℕ) → count-place-lts.Need-element-writ
   count-place.Post,
 ) (count-place-at t) count-place.Post
 count-place-element-write-sums t c =
-    let s = c .before .before .before .before .before .before .before in
+    let s = c .before .before .before .before .before in
     let h = lt-of-le-ne (s .pre .1 .1) (c .before .before .before .before .if1 .left) in
     omega (arith, h, s .pre .1 .0 .few-slots)
 
@@ -285,7 +287,8 @@ count-place-add-count-choice-2 : (t : ℕ) → count-place-lts.Need-add-count-ch
   count-place.Post,
 ) (count-place-at t) count-place.Post
 count-place-add-count-choice-2 t c =
-    search needs
+    let w = c .before .before .before .before .before .pre .1 .0 in
+    record { fits = omega (arith, w .within, w .few-choices) }
 
 count-place-count-choice-requires-2 : (t : ℕ) → count-place-lts.Need-count-choice-requires-2 (
   count-choice-below t,
@@ -296,7 +299,7 @@ count-place-count-choice-requires-2 : (t : ℕ) → count-place-lts.Need-count-c
   count-place.Post,
 ) (count-place-at t) count-place.Post
 count-place-count-choice-requires-2 t c κs =
-    let s = c .before .before .before .before .before .before .before .before .before in
+    let s = c .before .before .before .before .before .before .before in
     let w = s .pre .1 .0 in
     let h = lt-of-le-ne (s .pre .1 .1) (c .before .before .before .before .before .before .if1 .left) in
     (omega (arith, s .pre .0, w .within), walks-slot _ _ w h (c .before .before .if3 .left))
@@ -310,8 +313,8 @@ count-place-returns-4 : (t : ℕ) → count-place-lts.Need-returns-4 (
   count-place.Post,
 ) (count-place-at t) count-place.Post
 count-place-returns-4 t c =
-    let s = c .before .before .before .before .before .before .before .before .before .before .before in
-    counted-ends _ _ _ _ _ _ _ _ (s .pre .1 .1) (c .before .before .before .before .before .before .before .before .if1 .left) (c .before .before .before .before .before .wide .ensures) (c .before .before .before .before .if3 .left) (c .before .count-choice2 .ensures) (not-true _ (c .if4 .taken))
+    let s = c .before .before .before .before .before .before .before .before .before in
+    counted-ends _ _ _ _ _ _ _ _ (s .pre .1 .1) (c .before .before .before .before .before .before .before .before .if1 .left) (c .before .before .before .before .before .wide .ensures .0) (c .before .before .before .before .if3 .left) (c .before .count-choice2 .ensures) (not-true _ (c .if4 .taken))
 
 count-place-mul-sums-2 : (t : ℕ) → count-place-lts.Need-mul-sums-2 (
   count-choice-below t,
@@ -333,7 +336,7 @@ count-place-element-write-sums-2 : (t : ℕ) → count-place-lts.Need-element-wr
   count-place.Post,
 ) (count-place-at t) count-place.Post
 count-place-element-write-sums-2 t c =
-    let s = c .before .before .before .before .before .before .before .before .before .before .before in
+    let s = c .before .before .before .before .before .before .before .before .before in
     let h = lt-of-le-ne (s .pre .1 .1) (c .before .before .before .before .before .before .before .before .if1 .left) in
     omega (arith, h, s .pre .1 .0 .few-slots)
 
@@ -357,7 +360,7 @@ count-place-count-place-requires-2 : (t : ℕ) → count-place-lts.Need-count-pl
   count-place.Post,
 ) (count-place-at t) count-place.Post
 count-place-count-place-requires-2 t c κs =
-    let s = c .before .before .before .before .before .before .before .before .before .before .before .before .before in
+    let s = c .before .before .before .before .before .before .before .before .before .before .before in
     let w = s .pre .1 .0 in
     let h = lt-of-le-ne (s .pre .1 .1) (c .before .before .before .before .before .before .before .before .before .before .if1 .left) in
     let b = sums-back {sums = s .args .sums .now} (s .args .slot) (getD (s .args .sums .now) (s .args .slot) 0 + (c .before .before .before .before .before .before .before .wide .result)) (c .before .before .before .count-choice2 .ensures .kept (not-false _ (c .before .before .if4 .left))) in
@@ -372,8 +375,8 @@ count-place-returns-5 : (t : ℕ) → count-place-lts.Need-returns-5 (
   count-place.Post,
 ) (count-place-at t) count-place.Post
 count-place-returns-5 t c =
-    let s = c .before .before .before .before .before .before .before .before .before .before .before .before .before .before in
-    counted-slot _ _ _ _ _ _ _ _ (s .pre .1 .1) (c .before .before .before .before .before .before .before .before .before .before .before .if1 .left) (c .before .before .before .before .before .before .before .before .wide .ensures) (c .before .before .before .before .before .before .before .if3 .left) (c .before .before .before .before .count-choice2 .ensures) (not-false _ (c .before .before .before .if4 .left)) (c .count-place2 .ensures)
+    let s = c .before .before .before .before .before .before .before .before .before .before .before .before in
+    counted-slot _ _ _ _ _ _ _ _ (s .pre .1 .1) (c .before .before .before .before .before .before .before .before .before .before .before .if1 .left) (c .before .before .before .before .before .before .before .before .wide .ensures .0) (c .before .before .before .before .before .before .before .if3 .left) (c .before .before .before .before .count-choice2 .ensures) (not-false _ (c .before .before .before .if4 .left)) (c .count-place2 .ensures)
 
 pub +count-choice+count-place-spec : {M : Type 1} → statement M
 +count-choice+count-place-spec = close μ-count-choice μ-count-place (λ t. count-choice-lts.spec (
@@ -397,7 +400,7 @@ pub +count-choice+count-place-spec : {M : Type 1} → statement M
     )
     (count-place-at t)
     count-place.Post
-    (count-place-shared-slice-read-if2 t)
+    (count-place-index-1-if2 t)
     (count-place-returns t)
     (count-place-add-count-choice t)
     (count-place-count-choice-requires t)
@@ -405,7 +408,7 @@ pub +count-choice+count-place-spec : {M : Type 1} → statement M
     (count-place-mul-before t)
     (count-place-element-copy-out-before t)
     (count-place-mul-wide t)
-    (count-place-shared-slice-read-wide t)
+    (count-place-index-1-wide t)
     (count-place-wide-requires t)
     (count-place-add-after t)
     (count-place-add-count-place t)
