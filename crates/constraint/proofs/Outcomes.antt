@@ -29,6 +29,10 @@ one-is-op extra = no-two
 pub one-row : (number : ℕ) {a b : Row} → a ≡ rowOf number → b ≡ rowOf number → a ≡ b
 one-row number = no-two
 
+-- the four columns of a number's row, each by its field
+pub one-column : (column : Row → ℕ) (number : ℕ) {a b : ℕ} → a ≡ column (rowOf number) → b ≡ column (rowOf number) → a ≡ b
+one-column column number = no-two
+
 pub one-row-number : (row : Row) {a b : ℕ} → a ≡ rowNumber row → b ≡ rowNumber row → a ≡ b
 one-row-number row = no-two
 

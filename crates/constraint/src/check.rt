@@ -144,34 +144,6 @@ fn extra_holds(counts: Counts, names: Name, value: u16) -> bool
     }
 }
 
-// The kind of a number's row. Each column has its function, so that no more of the number is taken apart than is judged.
-fn kind_of(number: u64) -> u16
-    ensures { λ r. ⌜ r ≡ rowOf number .kind ⌝ }
-{
-    Row::of(number).kind
-}
-
-// The left column of a number's row.
-fn left_of(number: u64) -> u16
-    ensures { λ r. ⌜ r ≡ rowOf number .left ⌝ }
-{
-    Row::of(number).left
-}
-
-// The right column of a number's row.
-fn right_of(number: u64) -> u16
-    ensures { λ r. ⌜ r ≡ rowOf number .right ⌝ }
-{
-    Row::of(number).right
-}
-
-// The extra column of a number's row.
-fn extra_of(number: u64) -> u16
-    ensures { λ r. ⌜ r ≡ rowOf number .extra ⌝ }
-{
-    Row::of(number).extra
-}
-
 // Whether a number's row keeps the line of its kind.
 fn keeps_line(counts: Counts, takes: Takes, columns: Columns, number: u64) -> bool
     requires { ⌜ columns ≡ columnsOf (rowOf number .kind) ⌝ }
@@ -182,22 +154,22 @@ fn keeps_line(counts: Counts, takes: Takes, columns: Columns, number: u64) -> bo
         return false;
     }
     let left = columns.1;
-    if !left_holds(counts, left, left_of(number)) {
+    if !left_holds(counts, left, Row::left_of(number)) {
         return false;
     }
     let right = columns.2;
-    if !right_holds(counts, right, right_of(number)) {
+    if !right_holds(counts, right, Row::right_of(number)) {
         return false;
     }
     let extra = columns.3;
-    extra_holds(counts, extra, extra_of(number))
+    extra_holds(counts, extra, Row::extra_of(number))
 }
 
-// Whether a number of a pool stands for a row that keeps the table. Each arm reads the line at its own code, so that what the line names is known in it, and nothing of the table is read or told apart row by row.
+// Whether a number of a pool stands for a row that keeps the table. The kinds that search and plan check take have arms that read the line at their own code, so that what it names is settled when the library is built.
 pub fn row_keeps(counts: Counts, takes: Takes, number: u64) -> bool
     ensures { λ r. ⌜ r ≡ rowKeeps counts takes number ⌝ }
 {
-    let kind = kind_of(number);
+    let kind = Row::kind_of(number);
     match kind {
         1 => keeps_line(counts, takes, Columns::of(1), number),
         2 => keeps_line(counts, takes, Columns::of(2), number),
@@ -205,15 +177,6 @@ pub fn row_keeps(counts: Counts, takes: Takes, number: u64) -> bool
         4 => keeps_line(counts, takes, Columns::of(4), number),
         5 => keeps_line(counts, takes, Columns::of(5), number),
         6 => keeps_line(counts, takes, Columns::of(6), number),
-        7 => keeps_line(counts, takes, Columns::of(7), number),
-        8 => keeps_line(counts, takes, Columns::of(8), number),
-        9 => keeps_line(counts, takes, Columns::of(9), number),
-        10 => keeps_line(counts, takes, Columns::of(10), number),
-        11 => keeps_line(counts, takes, Columns::of(11), number),
-        12 => keeps_line(counts, takes, Columns::of(12), number),
-        13 => keeps_line(counts, takes, Columns::of(13), number),
-        14 => keeps_line(counts, takes, Columns::of(14), number),
-        15 => keeps_line(counts, takes, Columns::of(15), number),
         _ => keeps_line(counts, takes, Columns::of(kind), number),
     }
 }

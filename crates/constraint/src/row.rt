@@ -29,6 +29,34 @@ impl Row {
         }
     }
 
+    // The kind of a number's row. Each column has its function, so that no more of a number is taken apart than is looked at.
+    pub fn kind_of(number: u64) -> u16
+        ensures { λ r. ⌜ r ≡ rowOf number .kind ⌝ }
+    {
+        Row::of(number).kind
+    }
+
+    // The left column of a number's row.
+    pub fn left_of(number: u64) -> u16
+        ensures { λ r. ⌜ r ≡ rowOf number .left ⌝ }
+    {
+        Row::of(number).left
+    }
+
+    // The right column of a number's row.
+    pub fn right_of(number: u64) -> u16
+        ensures { λ r. ⌜ r ≡ rowOf number .right ⌝ }
+    {
+        Row::of(number).right
+    }
+
+    // The extra column of a number's row, 32,768 higher as the row keeps it.
+    pub fn extra_of(number: u64) -> u16
+        ensures { λ r. ⌜ r ≡ rowOf number .extra ⌝ }
+    {
+        Row::of(number).extra
+    }
+
     // The row's number in a pool.
     pub fn number(self) -> u64
         ensures { λ r. ⌜ r ≡ rowNumber self ⌝ }

@@ -8,7 +8,7 @@ use native.Mathlib.Nat.{not-suc-le-zero}
 use native.Mathlib.Omega.{arith}
 use borrow.Author.Tests.{lt-ltb, le-ltb, ltb-true, ltb-false}
 use lib.Dec.{ltb}
-use Rattle.lists.specs.Below.{one, allBelow, anyBelow, countBelow, sumBelow}
+use Rattle.lists.specs.Below.{one, allBelow, countBelow, sumBelow}
 
 -- two tests that hold
 pub and-both : (a b : Bool) → a ≡ true → b ≡ true → (a && b) ≡ true

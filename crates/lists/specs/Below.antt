@@ -1,5 +1,5 @@
 -- Tests, counts and sums over the numbers below a bound.
-use mathlib.Core.Bool.{Bool, true, false, _&&_, _||_}
+use mathlib.Core.Bool.{Bool, true, false, _&&_}
 use Prim.Native.Nat.{ℕ, zero, suc, _+_}
 
 -- 1 for a test that holds, 0 for one that fails
@@ -11,11 +11,6 @@ one false = 0
 unfoldable pub allBelow : ℕ → (ℕ → Bool) → Bool
 allBelow zero p = true
 allBelow (suc n) p = allBelow n p && p n
-
--- the test holds of some number below the bound
-unfoldable pub anyBelow : ℕ → (ℕ → Bool) → Bool
-anyBelow zero p = false
-anyBelow (suc n) p = anyBelow n p || p n
 
 -- how many numbers below the bound pass the test
 unfoldable pub countBelow : ℕ → (ℕ → Bool) → ℕ

@@ -12,34 +12,6 @@ ghost use Rattle.scheduling.specs.Plan.{slotOf};
 ghost use Rattle.scheduling.specs.Sums.{Sizes};
 ghost use Rattle.scheduling.specs.Rows.{slotsDiffer, offsetKept, opHolds, keepsRow, keepsRows};
 
-// The kind of a number's row. Each column has its function, so that an arm takes no more of the number apart than its kind needs.
-fn kind_of(number: u64) -> u16
-    ensures { λ r. ⌜ r ≡ rowOf number .kind ⌝ }
-{
-    Row::of(number).kind
-}
-
-// The left column of a number's row.
-fn left_of(number: u64) -> u16
-    ensures { λ r. ⌜ r ≡ rowOf number .left ⌝ }
-{
-    Row::of(number).left
-}
-
-// The right column of a number's row.
-fn right_of(number: u64) -> u16
-    ensures { λ r. ⌜ r ≡ rowOf number .right ⌝ }
-{
-    Row::of(number).right
-}
-
-// The extra column of a number's row, 32,768 higher as the row keeps it.
-fn extra_of(number: u64) -> u16
-    ensures { λ r. ⌜ r ≡ rowOf number .extra ⌝ }
-{
-    Row::of(number).extra
-}
-
 // Kind 6's comparison: a slot's count of choices against the limit, by the op.
 pub fn op_holds(op: u16, count: u32, limit: u16) -> bool
     ensures { λ r. ⌜ r ≡ opHolds op count limit ⌝ }
@@ -59,11 +31,11 @@ pub fn op_holds(op: u16, count: u32, limit: u16) -> bool
 fn in_slot(plan: &[u8], number: u64) -> bool
     ensures { λ r. ⌜ r ≡ eqb (slotOf (now (plan .entry)) (rowOf number .left)) (rowOf number .right) ⌝ }
 {
-    let at = left_of(number) as usize;
+    let at = Row::left_of(number) as usize;
     if plan.len() <= at {
-        return OMITTED as u16 == right_of(number);
+        return OMITTED as u16 == Row::right_of(number);
     }
-    plan[at] as u16 == right_of(number)
+    plan[at] as u16 == Row::right_of(number)
 }
 
 // Kind 3: a way of its own for each choice past the plan's end, as above.
@@ -124,21 +96,29 @@ pub(crate) fn keeps_row(number: u64, plan: &[u8], sizes: &[u32; 24]) -> bool
     requires { ⌜ Sizes (now plan) (now sizes) ⌝ }
     ensures { λ r. ⌜ r ≡ keepsRow (now (plan .entry)) (rowOf number) ⌝ }
 {
-    match kind_of(number) {
+    match Row::kind_of(number) {
         Kind::CHOICE_IS_IN_SLOT => in_slot(plan, number),
         Kind::CHOICE_IS_NOT_IN_SLOT => !in_slot(plan, number),
-        Kind::CHOICES_ARE_IN_SAME_SLOT => same_slot(plan, left_of(number), right_of(number)),
-        Kind::CHOICES_ARE_NOT_IN_SAME_SLOT => slots_differ(plan, left_of(number), right_of(number)),
+        Kind::CHOICES_ARE_IN_SAME_SLOT => same_slot(
+            plan,
+            Row::left_of(number),
+            Row::right_of(number),
+        ),
+        Kind::CHOICES_ARE_NOT_IN_SAME_SLOT => slots_differ(
+            plan,
+            Row::left_of(number),
+            Row::right_of(number),
+        ),
         Kind::CHOICES_HAVE_OFFSET => keeps_offset(
             plan,
-            left_of(number),
-            right_of(number),
-            extra_of(number),
+            Row::left_of(number),
+            Row::right_of(number),
+            Row::extra_of(number),
         ),
         Kind::SLOT_HAS_LIMITED_SIZE => op_holds(
-            extra_of(number),
-            size_of(sizes, left_of(number)),
-            right_of(number),
+            Row::extra_of(number),
+            size_of(sizes, Row::left_of(number)),
+            Row::right_of(number),
         ),
         _ => false,
     }

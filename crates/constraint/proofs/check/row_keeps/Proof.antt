@@ -55,70 +55,7 @@ of-requires-7 c κs = search needs
 
 keeps-line-requires-7 : tie.Need-keeps-line-requires-7
 keeps-line-requires-7 c κs =
-    c .of7 .ensures ∙ ap columnsOf (sym (c .before .match .keys7) ∙ c .before .before .kind-of .ensures)
-
-of-requires-8 : tie.Need-of-requires-8
-of-requires-8 c κs = search needs
-
-keeps-line-requires-8 : tie.Need-keeps-line-requires-8
-keeps-line-requires-8 c κs =
-    c .of8 .ensures ∙ ap columnsOf (sym (c .before .match .keys8) ∙ c .before .before .kind-of .ensures)
-
-of-requires-9 : tie.Need-of-requires-9
-of-requires-9 c κs = search needs
-
-keeps-line-requires-9 : tie.Need-keeps-line-requires-9
-keeps-line-requires-9 c κs =
-    c .of9 .ensures ∙ ap columnsOf (sym (c .before .match .keys9) ∙ c .before .before .kind-of .ensures)
-
-of-requires-10 : tie.Need-of-requires-10
-of-requires-10 c κs = search needs
-
-keeps-line-requires-10 : tie.Need-keeps-line-requires-10
-keeps-line-requires-10 c κs =
-    c .of10 .ensures ∙ ap columnsOf (sym (c .before .match .keys10) ∙ c .before .before .kind-of .ensures)
-
-of-requires-11 : tie.Need-of-requires-11
-of-requires-11 c κs = search needs
-
-keeps-line-requires-11 : tie.Need-keeps-line-requires-11
-keeps-line-requires-11 c κs =
-    c .of11 .ensures ∙ ap columnsOf (sym (c .before .match .keys11) ∙ c .before .before .kind-of .ensures)
-
-of-requires-12 : tie.Need-of-requires-12
-of-requires-12 c κs = search needs
-
-keeps-line-requires-12 : tie.Need-keeps-line-requires-12
-keeps-line-requires-12 c κs =
-    c .of12 .ensures ∙ ap columnsOf (sym (c .before .match .keys12) ∙ c .before .before .kind-of .ensures)
-
-of-requires-13 : tie.Need-of-requires-13
-of-requires-13 c κs = search needs
-
-keeps-line-requires-13 : tie.Need-keeps-line-requires-13
-keeps-line-requires-13 c κs =
-    c .of13 .ensures ∙ ap columnsOf (sym (c .before .match .keys13) ∙ c .before .before .kind-of .ensures)
-
-of-requires-14 : tie.Need-of-requires-14
-of-requires-14 c κs = search needs
-
-keeps-line-requires-14 : tie.Need-keeps-line-requires-14
-keeps-line-requires-14 c κs =
-    c .of14 .ensures ∙ ap columnsOf (sym (c .before .match .keys14) ∙ c .before .before .kind-of .ensures)
-
-of-requires-15 : tie.Need-of-requires-15
-of-requires-15 c κs = search needs
-
-keeps-line-requires-15 : tie.Need-keeps-line-requires-15
-keeps-line-requires-15 c κs =
-    c .of15 .ensures ∙ ap columnsOf (sym (c .before .match .keys15) ∙ c .before .before .kind-of .ensures)
-
-of-requires-16 : tie.Need-of-requires-16
-of-requires-16 c κs = search needs
-
-keeps-line-requires-16 : tie.Need-keeps-line-requires-16
-keeps-line-requires-16 c κs =
-    c .of16 .ensures ∙ ap columnsOf (c .before .before .kind-of .ensures)
+    c .of7 .ensures ∙ ap columnsOf (c .before .before .kind-of .ensures)
 
 returns : tie.Need-returns
 returns c =
@@ -148,42 +85,6 @@ returns-7 : tie.Need-returns-7
 returns-7 c =
     c .keeps-line7 .ensures
 
-returns-8 : tie.Need-returns-8
-returns-8 c =
-    c .keeps-line8 .ensures
-
-returns-9 : tie.Need-returns-9
-returns-9 c =
-    c .keeps-line9 .ensures
-
-returns-10 : tie.Need-returns-10
-returns-10 c =
-    c .keeps-line10 .ensures
-
-returns-11 : tie.Need-returns-11
-returns-11 c =
-    c .keeps-line11 .ensures
-
-returns-12 : tie.Need-returns-12
-returns-12 c =
-    c .keeps-line12 .ensures
-
-returns-13 : tie.Need-returns-13
-returns-13 c =
-    c .keeps-line13 .ensures
-
-returns-14 : tie.Need-returns-14
-returns-14 c =
-    c .keeps-line14 .ensures
-
-returns-15 : tie.Need-returns-15
-returns-15 c =
-    c .keeps-line15 .ensures
-
-returns-16 : tie.Need-returns-16
-returns-16 c =
-    c .keeps-line16 .ensures
-
 pub row-keeps-spec : {M : Type 1} → statement M
 row-keeps-spec =
     tie.close
@@ -203,37 +104,10 @@ row-keeps-spec =
     keeps-line-requires-6
     of-requires-7
     keeps-line-requires-7
-    of-requires-8
-    keeps-line-requires-8
-    of-requires-9
-    keeps-line-requires-9
-    of-requires-10
-    keeps-line-requires-10
-    of-requires-11
-    keeps-line-requires-11
-    of-requires-12
-    keeps-line-requires-12
-    of-requires-13
-    keeps-line-requires-13
-    of-requires-14
-    keeps-line-requires-14
-    of-requires-15
-    keeps-line-requires-15
-    of-requires-16
-    keeps-line-requires-16
     returns
     returns-2
     returns-3
     returns-4
     returns-5
     returns-6
-    returns-7
-    returns-8
-    returns-9
-    returns-10
-    returns-11
-    returns-12
-    returns-13
-    returns-14
-    returns-15
-    returns-16)
+    returns-7)

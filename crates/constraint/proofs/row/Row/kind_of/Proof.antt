@@ -1,9 +1,9 @@
 -- The kind of the number's row.
 use mathlib.Core.Path.{_≡_, ap}
 use Rattle.constraint.specs.declared.row.Row.{Row}
 use borrow.Author.Needs.{needs}
-use Rattle.scheduling.proofs.rows.kind_of.Statement.{statement}
-use Rattle.scheduling.proofs.rows.kind_of.Tie as tie
+use Rattle.constraint.proofs.row.Row.kind_of.Statement.{statement}
+use Rattle.constraint.proofs.row.Row.kind_of.Tie as tie
 
 of-requires : tie.Need-of-requires
 of-requires c κs = search needs

@@ -1,9 +1,9 @@
 -- The extra column of the number's row.
 use mathlib.Core.Path.{_≡_, ap}
 use Rattle.constraint.specs.declared.row.Row.{Row}
 use borrow.Author.Needs.{needs}
-use Rattle.scheduling.proofs.rows.extra_of.Statement.{statement}
-use Rattle.scheduling.proofs.rows.extra_of.Tie as tie
+use Rattle.constraint.proofs.row.Row.extra_of.Statement.{statement}
+use Rattle.constraint.proofs.row.Row.extra_of.Tie as tie
 
 of-requires : tie.Need-of-requires
 of-requires c κs = search needs
