@@ -1,0 +1,100 @@
+-- The call: its two refusals, and the text with zeros after it.
+use mathlib.Core.Path.{_≡_, refl, sym, _∙_, ap}
+use mathlib.Core.Bool.{Bool, true, false, cond}
+use mathlib.Core.List.{List}
+use Prim.Native.Nat.{ℕ, _+_, _≤_, _<_}
+use native.Mathlib.Nat.{zero-add}
+use native.Mathlib.Omega.{arith}
+use borrow.Author.Tests.{le-leb, lt-leb, eq-eqb, ne-eqb}
+use lib.Dec.{eqb, leb}
+use lib.ListN.{length, replicate}
+use lib.Seq.{sets}
+use Rattle.lists.specs.Pool.{pad}
+use Rattle.lists.proofs.Outcome.{no-two}
+use Rattle.lists.proofs.Stores.{sets-zeros}
+use Rattle.constraint.specs.declared.refusal.Refusal.the-variants as refusal
+use Rattle.constraint.specs.declared.check.Checked.{Checked}
+use Rattle.constraint.specs.declared.check.Checked.the-variants as checked
+use Rattle.constraint.specs.declared.check.Counts.{Counts}
+use Rattle.constraint.specs.declared.check.Takes.the-variants as takes
+use Rattle.constraint.proofs.CountLaws.{within}
+use Rattle.constraints.specs.Turn.{clashOf}
+use Rattle.constraints.specs.Reduction.{expanded}
+use Rattle.day_file.specs.File.{dayIn}
+use Rattle.day_file.specs.Calls.{fileJudged}
+use Rattle.planner.specs.Answer.{Answer, clash, refused, searchDay, listAnswer, reduceAnswer, dayAnswer, judgedAnswer, answerOf, answerText}
+use Rattle.planner.specs.Calls.{plansText, longest, Outcome, outcome, toldOf}
+use Rattle.planner.specs.Put.{Put}
+use Rattle.planner.specs.Steps.{Given}
+use Rattle.planner.specs.declared.plans.Told.{Told}
+use Rattle.planner.specs.declared.plans.Told.the-variants as told
+use Rattle.planner.proofs.FitLaws.{Modest, answer-fits}
+use Rattle.planner.proofs.FileLaws.{given}
+use Rattle.planner.proofs.ListedLaws.{modest}
+
+-- ---- every answer's text has room
+
+reduce-modest : (counts : Counts) (mins maxs optional rows : List ℕ) → Given counts mins maxs optional rows → (first room budget : ℕ) → room ≤ 1024
+    → Modest (reduceAnswer counts mins maxs optional rows first room budget)
+unfolding reduceAnswer searchDay
+reduce-modest counts mins maxs optional rows g first room budget r = go (leb (length (expanded counts rows)) 1024) (clashOf rows)
+  where
+    go : (few clashes : Bool) → Modest (cond few (cond clashes clash (listAnswer (searchDay counts mins maxs optional rows) first room budget)) (refused 6))
+    go false clashes = tt
+    go true true = tt
+    go true false =
+        let w = within counts takes.All (g .in-range) in
+        modest (searchDay counts mins maxs optional rows) first room budget (w .choices) (w .slots) r
+
+module _ (file : List ℕ) (first room budget : ℕ) (r : room ≤ 1024) where
+  answer-modest : Modest (answerOf file first room budget)
+  unfolding answerOf
+  answer-modest = go (leb (length file) 26827) (fileJudged file) refl
+    where
+      go : (short : Bool) (judged : Checked) → fileJudged file ≡ judged → Modest (cond short (judgedAnswer judged (dayAnswer (dayIn file) first room budget)) (refused 11))
+      go false judged e = tt
+      go true (checked.Refused why) e = tt
+      go true checked.Good e = reduce-modest _ _ _ _ _ (given file e) first room budget r
+
+  -- 'room up to 1,024': no text is longer than the pool that is lent for it
+  pub text-fits : length (plansText file first room budget) ≤ longest
+  unfolding plansText
+  text-fits = answer-fits (answerOf file first room budget) answer-modest
+
+-- a pool for the longest text has room for any
+pub answer-room : (answer : Answer) → Modest answer → (text : List ℕ) → length text ≡ longest → 0 + length (answerText answer) ≤ length text
+answer-room answer m text e = let h = answer-fits answer m in omega (arith, h, e)
+
+-- ---- the call
+
+module _ (file : List ℕ) (first room budget : ℕ) (pool : List ℕ) where
+  pub told-room : 1024 < room → outcome (told.Refused refusal.Count) pool ≡ toldOf file first room budget pool
+  unfolding toldOf
+  told-room h = rw (lt-leb _ _ h)
+
+  pub told-length : room ≤ 1024 → (length pool ≡ longest → ⊥) → outcome (told.Refused refusal.Length) pool ≡ toldOf file first room budget pool
+  unfolding toldOf
+  told-length r n = rw (le-leb _ _ r, ne-eqb _ _ n)
+
+  pub told-text : room ≤ 1024 → length pool ≡ longest → {cleared pool' : List ℕ} {size : ℕ} → cleared ≡ replicate (length pool) 0
+      → Put cleared 0 (plansText file first room budget) pool' size → outcome (told.Text size) pool' ≡ toldOf file first room budget pool
+  unfolding toldOf
+  told-text r e {cleared} {pool'} {size} z p =
+      let n : size ≡ length (plansText file first room budget) = p .0 ∙ zero-add _ in
+      let t : pool' ≡ pad longest (plansText file first room budget) =
+      p .1
+      ∙ ap (λ (l : List ℕ). sets l 0 (plansText file first room budget)) (z ∙ ap (λ (k : ℕ). replicate k 0) e)
+      ∙ sets-zeros longest (plansText file first room budget) (text-fits file first room budget r) in
+      rw (le-leb _ _ r, eq-eqb _ _ e, n, t)
+
+  -- a text by its answer
+  pub text-of : {answer : Answer} → answer ≡ answerOf file first room budget → answerText answer ≡ plansText file first room budget
+  unfolding plansText
+  text-of e = ap answerText e
+
+  -- no two outcomes fit the promise
+  pub one-outcome : {answer other : Told} {text rest : List ℕ} → outcome answer text ≡ toldOf file first room budget pool → outcome other rest ≡ toldOf file first room budget pool
+      → (answer ≡ other) × (text ≡ rest)
+  one-outcome p q =
+      let z = no-two p q in
+      (ap (λ (o : Outcome). o .answer) z, ap (λ (o : Outcome). o .pool) z)

@@ -1,0 +1,162 @@
+-- What the reduction of a read day answers.
+use mathlib.Core.Path.{_≡_, refl, sym, _∙_, ap}
+use mathlib.Core.Bool.{Bool, true, false, _&&_, cond}
+use mathlib.Core.List.{List, [], _∷_, _++_, append-assoc}
+use Prim.Native.Nat.{ℕ, _+_, _-_, _*_, _≤_, _<_}
+use native.Mathlib.Omega.{arith}
+use borrow.Author.Tests.{le-leb, leb-true, eq-eqb}
+use lib.Dec.{eqb, leb}
+use lib.ListN.{length, take, replicate, length-append, length-replicate}
+use lib.Seq.{take-at}
+use Rattle.lists.specs.Pool.{pad}
+use Rattle.lists.proofs.Pad.{length-pad}
+use Rattle.lists.proofs.Sorted.{length-unique}
+use Rattle.constraint.specs.Check.{countsInRange, mostRows, rowsOf}
+use Rattle.constraint.specs.Refusal.{numberOf, carriedBy}
+use Rattle.constraint.specs.declared.check.Counts.{Counts}
+use Rattle.constraint.specs.declared.check.Takes.the-variants as takes
+use Rattle.constraint.specs.declared.check.Checked.the-variants as checked
+use Rattle.constraint.specs.declared.refusal.Refusal.{Refusal}
+use Rattle.constraint.proofs.CountLaws.{within}
+use Rattle.constraints.specs.Turn.{clashOf}
+use Rattle.constraints.specs.Reduction.{expanded, reducedRows, searchList, rosterList, Outcome, done, refused, tells, Left, left, reductionOf, reduceOf}
+use Rattle.constraints.specs.declared.Reduction.{Reduction}
+use Rattle.constraints.specs.declared.Reduced.{Reduced}
+use Rattle.constraints.specs.declared.Reduced.the-variants as reducedCase
+use Rattle.constraints.proofs.Lists.{result-lists}
+use Rattle.scheduling.specs.Day.{Day, dayOf}
+use Rattle.listing.specs.Outcome.{lengthsFit, judgeOf}
+use Rattle.listing.proofs.JudgeLaws.{buffer-decides, judge-good}
+use Rattle.planner.specs.Answer.{Answer, clash, withRows, searchDay, listAnswer, reduceAnswer}
+use Rattle.planner.specs.Answer as answer
+use Rattle.planner.specs.Steps.{Given}
+use Rattle.planner.proofs.SearchLaws.{search-good}
+
+module _ (counts : Counts) (mins maxs optional rows : List ℕ) (g : Given counts mins maxs optional rows) where
+  -- the rows of a read day are reduced, with no refusal but 6
+  reduces : (pool : List ℕ) → length pool ≡ 1024 → reduceOf counts rows pool ≡ reductionOf counts rows
+  unfolding reduceOf
+  reduces pool e = rw (g .in-range, eq-eqb _ _ (g .rows-fit), eq-eqb _ _ e, g .rows-good)
+
+  -- how many rows there are, whether they clash, and the pool
+  pub record Reduces (count : ℕ) (clashes : Bool) (pool : List ℕ) : Type 0 where
+    pub few : leb (length (expanded counts rows)) 1024 ≡ true
+    pub counted : count ≡ length (reducedRows counts rows)
+    pub flagged : clashes ≡ clashOf rows
+    pub held : pool ≡ pad 1024 (reducedRows counts rows)
+
+  module _ (pool : List ℕ) (long : length pool ≡ 1024) where
+    pub reduced-rows : {count : ℕ} {clashes : Bool} {pool' : List ℕ} → left (done count clashes) pool' ≡ reduceOf counts rows pool → Reduces count clashes pool'
+    unfolding reductionOf
+    reduced-rows {count} {clashes} {pool'} e = go (leb (length (expanded counts rows)) 1024) refl (e ∙ reduces pool long)
+      where
+        go : (b : Bool) → leb (length (expanded counts rows)) 1024 ≡ b
+            → left (done count clashes) pool' ≡ cond b (left (done (length (reducedRows counts rows)) (clashOf rows)) (pad 1024 (reducedRows counts rows))) (left (refused 6 []) (replicate 1024 0))
+            → Reduces count clashes pool'
+        go true t h =
+            let a : done count clashes ≡ done (length (reducedRows counts rows)) (clashOf rows) = ap (λ (l : Left). l .answer) h in
+            record { few = t; counted = cc; flagged = cc; held = ap (λ (l : Left). l .pool) h }
+        go false t h =
+            let a : done count clashes ≡ refused 6 [] = ap (λ (l : Left). l .answer) h in
+            let z : _≡_ {A = ℕ} 0 1 = cc in
+            absurd (omega arith)
+
+    pub reduced-refused : {number : ℕ} {carried pool' : List ℕ} (first room budget : ℕ) → left (refused number carried) pool' ≡ reduceOf counts rows pool
+        → answer.refused number ≡ reduceAnswer counts mins maxs optional rows first room budget
+    unfolding reductionOf reduceAnswer
+    reduced-refused {number} {carried} {pool'} first room budget e = go (leb (length (expanded counts rows)) 1024) (e ∙ reduces pool long)
+      where
+        go : (b : Bool)
+            → left (refused number carried) pool' ≡ cond b (left (done (length (reducedRows counts rows)) (clashOf rows)) (pad 1024 (reducedRows counts rows))) (left (refused 6 []) (replicate 1024 0))
+            → answer.refused number ≡ cond b (cond (clashOf rows) clash (listAnswer (searchDay counts mins maxs optional rows) first room budget)) (answer.refused 6)
+        go true h =
+            let a : refused number carried ≡ done (length (reducedRows counts rows)) (clashOf rows) = ap (λ (l : Left). l .answer) h in
+            let z : _≡_ {A = ℕ} 0 1 = cc in
+            absurd (omega arith)
+        go false h =
+            let a : refused number carried ≡ refused 6 [] = ap (λ (l : Left). l .answer) h in
+            let n : number ≡ 6 = cc in
+            ap answer.refused n
+
+  module _ {count : ℕ} {clashes : Bool} {pool : List ℕ} (r : Reduces count clashes pool) where
+    -- a clash
+    pub clash-told : clashes ≡ true → (first room budget : ℕ) → clash ≡ reduceAnswer counts mins maxs optional rows first room budget
+    unfolding reduceAnswer
+    clash-told t first room budget = rw (r .few, sym (r .flagged) ∙ t)
+
+    -- none: the day is listed with the search's rows
+    pub listed-told : clashes ≡ false → (first room budget : ℕ) → listAnswer (searchDay counts mins maxs optional rows) first room budget ≡ reduceAnswer counts mins maxs optional rows first room budget
+    unfolding reduceAnswer
+    listed-told f first room budget = rw (r .few, sym (r .flagged) ∙ f)
+
+    result-fits : length (reducedRows counts rows) ≤ 1024
+    unfolding reducedRows
+    result-fits = let h = length-unique (expanded counts rows) in let t = leb-true (length (expanded counts rows)) 1024 (r .few) in omega (arith, h, t)
+
+    pub count-fits : count ≤ 1024
+    count-fits = let h = result-fits in omega (arith, h, r .counted)
+
+    pub pool-length : length pool ≡ 1024
+    pool-length = ap length (r .held) ∙ length-pad 1024 (reducedRows counts rows) result-fits
+
+    -- the reduction is the pool's front
+    pub reduced-front : take count pool ≡ reducedRows counts rows
+    unfolding pad
+    reduced-front =
+        ap (take count) (r .held) ∙ take-at (reducedRows counts rows) (replicate (1024 - length (reducedRows counts rows)) 0) count (sym (r .counted))
+
+    -- and the search's list is the reduction's
+    abbrev list : List ℕ
+    list = searchList (reducedRows counts rows)
+
+    parts : reducedRows counts rows ≡ list ++ rosterList (reducedRows counts rows)
+    parts = result-lists counts rows (g .in-range) (g .rows-good)
+
+    pub search-fits : length list ≤ count
+    search-fits = omega (arith, r .counted, ap length parts ∙ length-append list (rosterList (reducedRows counts rows)))
+
+    pub search-front : {searches : ℕ} → searches ≡ length list → take searches pool ≡ list
+    unfolding pad
+    search-front {searches} e =
+        ap (take searches) (r .held ∙ ap (pad 1024) parts ∙ append-assoc list (rosterList (reducedRows counts rows)) _) ∙ take-at list _ searches (sym e)
+
+  -- 'the roster's': what the listing takes of it is good
+  pub search-judged : (room : ℕ) → length (searchList (reducedRows counts rows)) ≤ 1024
+      → judgeOf (searchDay counts mins maxs optional rows) room (room * counts .choices) ≡ checked.Good
+  unfolding searchDay countsInRange
+  search-judged room few =
+      let w = within counts takes.All (g .in-range) in
+      let day = searchDay counts mins maxs optional rows in
+      let size = room * counts .choices in
+      sym (judge-good day room size (rw (le-leb _ _ (w .choices), le-leb _ _ (w .slots), le-leb _ _ (w .choosers), le-leb _ _ few))
+      (sym (buffer-decides day room size (g .mins-fit) (g .maxs-fit) (g .optional-fits) refl) ∙ eq-eqb size size refl)
+      (search-good counts rows (length (searchList (reducedRows counts rows))) (g .in-range) (g .rows-good))
+      (g .flags-fit))
+
+  -- ---- the call as the text's maker makes it
+
+  module _ {result : Reduced} (pool : List ℕ) (long : 1024 ≡ length pool) {pool' : List ℕ} (e : left (tells result) pool' ≡ reduceOf counts rows pool) where
+    pub rows-case : {reduction : Reduction} → result ≡ reducedCase.Rows reduction → Reduces (reduction .count) (reduction .clash) pool'
+    rows-case t = reduced-rows pool (sym long) (ap (λ (r : Reduced). left (tells r) pool') (sym t) ∙ e)
+
+    pub refused-case : {why : Refusal} (first room budget : ℕ) → result ≡ reducedCase.Refused why → answer.refused (numberOf why) ≡ reduceAnswer counts mins maxs optional rows first room budget
+    refused-case first room budget t = reduced-refused pool (sym long) first room budget (ap (λ (r : Reduced). left (tells r) pool') (sym t) ∙ e)
+
+  -- the day that is listed: its rows are as many as were counted
+  module _ {count : ℕ} {clashes : Bool} {pool : List ℕ} (r : Reduces count clashes pool) {searches : ℕ} (e : searches ≡ length (searchList (take count pool))) where
+    searches-are : searches ≡ length (searchList (reducedRows counts rows))
+    searches-are = e ∙ ap (λ (l : List ℕ). length (searchList l)) (reduced-front r)
+
+    pub day-is : dayOf (withRows counts searches) mins maxs optional (take searches pool) ≡ searchDay counts mins maxs optional rows
+    unfolding searchDay
+    day-is =
+        ap (λ (l : List ℕ). dayOf (withRows counts searches) mins maxs optional l) (search-front r searches-are)
+        ∙ ap (λ (n : ℕ). dayOf (withRows counts n) mins maxs optional (searchList (reducedRows counts rows))) searches-are
+
+    pub searches-fit : searches ≤ length pool
+    searches-fit = let h = search-fits r in let f = count-fits r in let l = pool-length r in omega (arith, h, f, l, searches-are)
+
+    pub day-judged : (room : ℕ) → judgeOf (dayOf (withRows counts searches) mins maxs optional (take searches pool)) room (room * counts .choices) ≡ checked.Good
+    day-judged room =
+        ap (λ (d : Day). judgeOf d room (room * counts .choices)) day-is
+        ∙ search-judged room (let h = search-fits r in let f = count-fits r in omega (arith, h, f))

@@ -1,0 +1,186 @@
+// The program `plans`: a whole file and three numbers in, the whole text out.
+use super::lines::put_clash;
+use super::lines::put_listed;
+use super::lines::put_refused;
+use super::lines::put_turns;
+use super::pools;
+use super::put::clear;
+use super::search_list::search_count;
+use constraint::check::Counts;
+use constraint::refusal::Refusal;
+use constraints::Reduced;
+use constraints::reduce;
+use day_file::read::Read;
+use day_file::read::read_day;
+use listing::list_plans::Listed;
+use listing::list_plans::list_plans;
+ghost use mathlib.Core.Path.{_≡_};
+ghost use Prim.Native.Nat.{_*_, _≤_};
+ghost use lib.ListN.{length};
+ghost use Rattle.constraint.specs.declared.check.Checked.the-variants as checked;
+ghost use Rattle.scheduling.specs.Day.{dayOf};
+ghost use Rattle.listing.specs.Outcome.{judgeOf};
+ghost use Rattle.planner.specs.Answer.{listAnswer, reduceAnswer, answerText};
+ghost use Rattle.planner.specs.Calls.{plansText, longest, outcome, toldOf};
+ghost use Rattle.planner.specs.Put.{Put};
+ghost use Rattle.planner.specs.Steps.{Given};
+
+// 'room up to 1,024'.
+pub const MOST_ROOM: u64 = 1024;
+
+// The length of the pool lent for a text: three lines of 68 bytes in all, and 1,024 plans of 64 places at 282 bytes.
+pub const LONGEST_TEXT: usize = 288_836;
+
+// 'over 26,827 bytes: 11'.
+pub const LONGEST_FILE: usize = 26_827;
+
+// How many bytes the text takes, or why there is none.
+pub enum Told {
+    Text(usize),
+    Refused(Refusal),
+}
+
+// The text of a day that the listing takes.
+fn put_plans_of(
+    counts: Counts,
+    mins: &[u16],
+    maxs: &[u16],
+    optional: &[u8],
+    rows: &[u64],
+    first: u64,
+    room: u64,
+    budget: u64,
+    text: &mut [u8],
+) -> usize
+    requires { ⌜ judgeOf (dayOf counts (now mins) (now maxs) (now optional) (now rows)) room (room * counts .choices) ≡ checked.Good ⌝ ∗ ⌜ room ≤ 1024 ⌝ ∗ ⌜ length (now text) ≡ longest ⌝ }
+    ensures { λ r. ⌜ Put (now (text .entry)) 0 (answerText (listAnswer (dayOf counts (now (mins .entry)) (now (maxs .entry)) (now (optional .entry)) (now (rows .entry))) first room budget)) (now (text .exit)) r ⌝ }
+{
+    let mut buffer = pools::page();
+    let size = room as usize * counts.choices;
+    let listed = list_plans(
+        counts,
+        mins,
+        maxs,
+        optional,
+        rows,
+        first,
+        room,
+        budget,
+        &mut buffer[..size],
+    );
+    match listed {
+        Listed::Plans {
+            written,
+            total,
+            nodes,
+        } => put_listed(
+            text,
+            first,
+            total,
+            nodes,
+            written as usize,
+            counts.choices,
+            &buffer,
+        ),
+        Listed::Turns => put_turns(text, budget),
+        Listed::Refused(why) => put_refused(text, why),
+    }
+}
+
+// The text of a day: its rows are reduced once, and the search's part of them is listed by.
+fn put_day(
+    counts: Counts,
+    mins: &[u16],
+    maxs: &[u16],
+    optional: &[u8],
+    rows: &[u64],
+    first: u64,
+    room: u64,
+    budget: u64,
+    text: &mut [u8],
+) -> usize
+    requires { ⌜ Given counts (now mins) (now maxs) (now optional) (now rows) ⌝ ∗ ⌜ room ≤ 1024 ⌝ ∗ ⌜ length (now text) ≡ longest ⌝ }
+    ensures { λ r. ⌜ Put (now (text .entry)) 0 (answerText (reduceAnswer counts (now (mins .entry)) (now (maxs .entry)) (now (optional .entry)) (now (rows .entry)) first room budget)) (now (text .exit)) r ⌝ }
+{
+    let mut pool = pools::reduced_rows();
+    let reduced = reduce(counts, rows, &mut pool);
+    match reduced {
+        Reduced::Rows(reduction) => {
+            if reduction.clash {
+                return put_clash(text);
+            }
+            let searched = search_count(&pool[..reduction.count]);
+            let with_rows = Counts {
+                choices: counts.choices,
+                slots: counts.slots,
+                choosers: counts.choosers,
+                rows: searched,
+            };
+            put_plans_of(
+                with_rows,
+                mins,
+                maxs,
+                optional,
+                &pool[..searched],
+                first,
+                room,
+                budget,
+                text,
+            )
+        }
+        Reduced::Refused(why) => put_refused(text, why),
+    }
+}
+
+// The text of a file.
+fn put_file(file: &[u8], first: u64, room: u64, budget: u64, text: &mut [u8]) -> usize
+    requires { ⌜ room ≤ 1024 ⌝ ∗ ⌜ length (now text) ≡ longest ⌝ }
+    ensures { λ r. ⌜ Put (now (text .entry)) 0 (plansText (now (file .entry)) first room budget) (now (text .exit)) r ⌝ }
+{
+    if LONGEST_FILE < file.len() {
+        return put_refused(text, Refusal::FileLength);
+    }
+    let mut mins = pools::words();
+    let mut maxs = pools::words();
+    let mut optional = pools::flags();
+    let mut levels = pools::words();
+    let mut preferences = pools::preferences();
+    let mut rows = pools::given_rows();
+    let read = read_day(
+        file,
+        &mut mins,
+        &mut maxs,
+        &mut optional,
+        &mut levels,
+        &mut preferences,
+        &mut rows,
+    );
+    match read {
+        Read::Day(counts) => put_day(
+            counts.for_rows(),
+            &mins[..counts.choices],
+            &maxs[..counts.choices],
+            &optional[..counts.choices],
+            &rows[..counts.rows],
+            first,
+            room,
+            budget,
+            text,
+        ),
+        Read::Refused(why) => put_refused(text, why),
+    }
+}
+
+// The whole text that the program prints for a file, from the front of the lent pool.
+pub fn plans_text(file: &[u8], first: u64, room: u64, budget: u64, text: &mut [u8]) -> Told
+    ensures { λ r. ⌜ outcome r (now (text .exit)) ≡ toldOf (now (file .entry)) first room budget (now (text .entry)) ⌝ }
+{
+    if MOST_ROOM < room {
+        return Told::Refused(Refusal::Count);
+    }
+    if text.len() != LONGEST_TEXT {
+        return Told::Refused(Refusal::Length);
+    }
+    clear(text);
+    Told::Text(put_file(file, first, room, budget, text))
+}

@@ -1,0 +1,94 @@
+// Lists a day's plans: plans [FIRST [ROOM [BUDGET]]], the day file on standard input.
+use libc::STDERR_FILENO;
+use libc::STDIN_FILENO;
+use libc::STDOUT_FILENO;
+use planner::number::Number;
+use planner::number::number_of;
+use planner::plans::LONGEST_TEXT;
+use planner::plans::Told;
+use planner::plans::plans_text;
+ghost use mathlib.Core.Path.{_≡_};
+ghost use lib.ListN.{length};
+
+// 'by default 0, 100 and 100,000,000'.
+const FIRST: u64 = 0;
+
+const ROOM: u64 = 100;
+
+const BUDGET: u64 = 100_000_000;
+
+// Room for a file, and for one byte more that shows that it is too long.
+fn file_pool() -> [u8; 26_828]
+    ensures { λ r. ⌜ 26828 ≡ length r ⌝ }
+{
+    [0; 26_828]
+}
+
+// Room for the longest text.
+fn text_pool() -> [u8; LONGEST_TEXT]
+    ensures { λ r. ⌜ 288836 ≡ length r ⌝ }
+{
+    [0; LONGEST_TEXT]
+}
+
+// An argument's number, or the default where it isn't given.
+fn argument(at: usize, default: u64) -> Number {
+    if os::arg_count() <= at {
+        return Number::Value(default);
+    }
+    let mut bytes = io::buffer();
+    let count = os::arg(at, &mut bytes);
+    number_of(&bytes[..count])
+}
+
+// One line on standard error that says what is expected.
+fn say_expected() {
+    io::write_all(
+        STDERR_FILENO,
+        b"plans: expected [FIRST [ROOM [BUDGET]]], each a number below 2^64, ROOM at most 1024\n",
+    );
+}
+
+// The text that the pool holds from its front on.
+fn front(text: &[u8], size: usize) -> &[u8] {
+    if text.len() < size {
+        return text;
+    }
+    &text[..size]
+}
+
+// Writes it.
+fn write_text(text: &[u8], size: usize) {
+    io::write_all(STDOUT_FILENO, front(text, size));
+}
+
+// The text for the file on standard input.
+fn list(first: u64, room: u64, budget: u64) {
+    let mut file = file_pool();
+    let size = io::read_full(STDIN_FILENO, &mut file);
+    let mut text = text_pool();
+    let told = plans_text(&file[..size], first, room, budget, &mut text);
+    match told {
+        Told::Text(size) => write_text(&text, size),
+        Told::Refused(_) => say_expected(),
+    }
+}
+
+fn main() {
+    if 4 < os::arg_count() {
+        say_expected();
+        return;
+    }
+    let first = argument(1, FIRST);
+    let room = argument(2, ROOM);
+    let budget = argument(3, BUDGET);
+    if let Number::Value(first) = first {
+        if let Number::Value(room) = room {
+            if let Number::Value(budget) = budget {
+                list(first, room, budget);
+                return;
+            }
+        }
+    }
+    say_expected();
+}

@@ -1,0 +1,142 @@
+// Replays whole texts of the program `plans`, whose answers were told from document 01 alone.
+use cases::Next;
+use cases::Tally;
+use cases::number;
+use cases::plus;
+use cases::same;
+use cases::word;
+use constraint::refusal::Refusal;
+use planner::plans::LONGEST_TEXT;
+use planner::plans::Told;
+use planner::plans::plans_text;
+ghost use mathlib.Core.Path.{_≡_};
+ghost use lib.ListN.{length};
+
+// What the pool of the text holds before a call, to see that all of it is cleared or none.
+const BLANK: u8 = 119;
+
+// The length that marks a case with no text.
+const NO_TEXT: usize = 0xffff_ffff;
+
+// Where a record's file begins.
+const FILE_AT: usize = 28;
+
+// Room for the longest text.
+fn text_pool() -> [u8; LONGEST_TEXT]
+    ensures { λ r. ⌜ 288836 ≡ length r ⌝ }
+{
+    [BLANK; LONGEST_TEXT]
+}
+
+// Room for the longest record.
+fn record_pool() -> [u8; 65_536]
+    ensures { λ r. ⌜ 65536 ≡ length r ⌝ }
+{
+    [0; 65_536]
+}
+
+// The four bytes from a place on, high byte first.
+fn length_at(bytes: &[u8], at: usize) -> usize {
+    (word(bytes, at) as usize) * 65_536 + (word(bytes, plus(at, 2)) as usize)
+}
+
+// Blanks the pool.
+fn blank(text: &mut [u8]) {
+    let mut i = 0;
+    while i < text.len() {
+        text[i] = BLANK;
+        i += 1;
+    }
+}
+
+// Whether every byte of the pool from a place on is this one.
+fn is_filled(text: &[u8], from: usize, byte: u8) -> bool {
+    let mut i = from;
+    while i < text.len() {
+        if text[i] != byte {
+            return false;
+        }
+        i += 1;
+    }
+    true
+}
+
+// Whether the pool holds the text that stands from a place on with its length before it, and zeros past it.
+fn text_agrees(bytes: &[u8], at: usize, size: usize, text: &[u8]) -> bool {
+    if size != length_at(bytes, at) {
+        return false;
+    }
+    if !same(text, 0, bytes, plus(at, 4), size) {
+        return false;
+    }
+    is_filled(text, size, 0)
+}
+
+// Whether no text was expected: the room's refusal, and the pool as it was.
+fn refusal_agrees(bytes: &[u8], at: usize, why: Refusal, text: &[u8]) -> bool {
+    if length_at(bytes, at) != NO_TEXT {
+        return false;
+    }
+    if why.number() != 1 {
+        return false;
+    }
+    is_filled(text, 0, BLANK)
+}
+
+// Whether the outcome and the pool are what stands from a place on.
+fn told_agrees(bytes: &[u8], at: usize, told: Told, text: &[u8]) -> bool {
+    match told {
+        Told::Text(size) => text_agrees(bytes, at, size, text),
+        Told::Refused(why) => refusal_agrees(bytes, at, why, text),
+    }
+}
+
+// One case: the first number, the room and the budget, a file with its length before it, then the answer.
+fn agrees(bytes: &[u8], text: &mut [u8]) -> bool {
+    let size = (word(bytes, 24) as usize) * 65_536 + word(bytes, 26) as usize;
+    let end = size + FILE_AT;
+    if bytes.len() < end {
+        return false;
+    }
+    blank(text);
+    let told = plans_text(
+        &bytes[FILE_AT..end],
+        number(bytes, 0),
+        number(bytes, 8),
+        number(bytes, 16),
+        text,
+    );
+    told_agrees(bytes, end, told, text)
+}
+
+// What the end of the file adds: a broken record is a difference.
+fn ended(next: Next, tally: Tally) -> Tally {
+    match next {
+        Next::Record(_) => tally,
+        Next::End => tally,
+        Next::Broken => tally.with(false),
+    }
+}
+
+// Every record of the file.
+fn replay(file: i32, bytes: &mut [u8], text: &mut [u8]) -> Tally {
+    let mut tally = Tally::new();
+    let mut left = 0x1_0000_0000u64;
+    while 0 < left {
+        let next = cases::read_next(file, bytes);
+        let Next::Record(_) = next else {
+            return ended(next, tally);
+        };
+        tally = tally.with(agrees(bytes, text));
+        left -= 1;
+    }
+    tally
+}
+
+fn main() {
+    let file = cases::open();
+    let mut bytes = record_pool();
+    let mut text = text_pool();
+    let tally = replay(file, &mut bytes, &mut text);
+    tally.tell(b"plans");
+}
