@@ -1,10 +1,15 @@
-// Files of cases with their expected answers, as the oracle writes them: records, each with the length of its rest before it.
+// Files of cases with their expected answers, as the oracle writes them: records, each with the length of its rest before it; and what the programs that replay them share.
 // Reading past a record's end gives 0, so that a damaged file shows as a difference.
 use libc::STDOUT_FILENO;
 ghost use mathlib.Core.Path.{_≡_};
-ghost use Prim.Native.Nat.{_≤_};
-ghost use lib.ListN.{length, getD};
+ghost use Prim.Native.Nat.{_+_, _%_, _^_};
+ghost use lib.ListN.{length, getD, take, drop, replicate};
+ghost use Rattle.cases.specs.Filled.{filled};
 ghost use Rattle.cases.specs.Numbers.{wordAt, numberAt};
+ghost use Rattle.cases.specs.Tallies.{counted, closed};
+
+// What a byte of a lent pool holds before a call, so that what the call left alone shows.
+pub const BLANK: u8 = 119;
 
 // What the next record of a file is: its length, or the end of the file, or a record that is cut short or too long for the buffer.
 pub enum Next {
@@ -33,7 +38,9 @@ impl Tally {
     }
 
     // One case more.
-    pub fn with(self, agrees: bool) -> Tally {
+    pub fn with(self, agrees: bool) -> Tally
+        ensures { λ r. ⌜ r ≡ counted self agrees ⌝ }
+    {
         let cases = std::num::wrapping_add_u64(self.cases, 1);
         if agrees {
             return Tally {
@@ -146,6 +153,17 @@ fn length_of(head: &[u8]) -> usize {
     (word(head, 0) as usize) * 65_536 + (word(head, 2) as usize)
 }
 
+// What the end of the file adds: a broken record is a difference.
+pub fn ended(next: Next, tally: Tally) -> Tally
+    ensures { λ r. ⌜ r ≡ closed next tally ⌝ }
+{
+    match next {
+        Next::Record(_) => tally,
+        Next::End => tally,
+        Next::Broken => tally.with(false),
+    }
+}
+
 // Whether n bytes of one list, from a place on, are those of another from another place on; past its end a list has zeros.
 pub fn same(one: &[u8], from: usize, other: &[u8], at: usize, n: usize) -> bool {
     let mut i = 0;
@@ -159,7 +177,9 @@ pub fn same(one: &[u8], from: usize, other: &[u8], at: usize, n: usize) -> bool 
 }
 
 // The sum of two places; it wraps where no list reaches.
-pub fn plus(a: usize, b: usize) -> usize {
+pub fn plus(a: usize, b: usize) -> usize
+    ensures { λ r. ⌜ r ≡ (a + b) % 2 ^ 64 ⌝ }
+{
     std::num::wrapping_add_usize(a, b)
 }
 
@@ -192,4 +212,59 @@ pub fn read_numbers(bytes: &[u8], from: usize, numbers: &mut [u64]) {
         at = plus(at, 8);
         i += 1;
     }
+}
+
+// The first n words of a list, or all of them: a pool's part that a call is lent, with no test at each caller.
+pub fn first_words(words: &[u16], n: usize) -> &[u16]
+    ensures { λ r. ⌜ now r ≡ take n (now (words .entry)) ⌝ }
+{
+    if words.len() < n {
+        return words;
+    }
+    &words[..n]
+}
+
+// The first n bytes of a list, or all of them.
+pub fn first_bytes(bytes: &[u8], n: usize) -> &[u8]
+    ensures { λ r. ⌜ now r ≡ take n (now (bytes .entry)) ⌝ }
+{
+    if bytes.len() < n {
+        return bytes;
+    }
+    &bytes[..n]
+}
+
+// The first n rows of a list, or all of them.
+pub fn first_rows(rows: &[u64], n: usize) -> &[u64]
+    ensures { λ r. ⌜ now r ≡ take n (now (rows .entry)) ⌝ }
+{
+    if rows.len() < n {
+        return rows;
+    }
+    &rows[..n]
+}
+
+// Makes every byte of a pool this one, so that nothing of an earlier case can stand for this one's answer.
+pub fn fill(bytes: &mut [u8], byte: u8)
+    ensures { λ _. ⌜ now (bytes .exit) ≡ replicate (length (now (bytes .entry))) byte ⌝ }
+{
+    let mut i = 0;
+    while i < bytes.len() {
+        bytes[i] = byte;
+        i += 1;
+    }
+}
+
+// Whether every byte of a pool from a place on is this one: what a call has to leave, or to clear.
+pub fn is_filled(bytes: &[u8], from: usize, byte: u8) -> bool
+    ensures { λ r. ⌜ r ≡ filled byte (drop from (now (bytes .entry))) ⌝ }
+{
+    let mut i = from;
+    while i < bytes.len() {
+        if bytes[i] != byte {
+            return false;
+        }
+        i += 1;
+    }
+    true
 }

@@ -1,4 +1,10 @@
 // 'A realistic example day with over a thousand plans lists its first page at once, and pages joined equal the whole': the skills day, page by page.
+use cases::BLANK;
+use cases::fill;
+use cases::first_bytes;
+use cases::first_rows;
+use cases::first_words;
+use cases::is_filled;
 use cases::same;
 use constraint::check::Counts;
 use constraints::Reduced;
@@ -19,9 +25,6 @@ const CHOICES: usize = 12;
 
 // The program's default.
 const BUDGET: u64 = 100_000_000;
-
-// What a byte of a page holds before its call.
-const BLANK: u8 = 119;
 
 // A row's number holds its kind from this place on.
 const KIND_AT: u64 = 0x1_0000_0000_0000;
@@ -101,30 +104,6 @@ fn page_of_997() -> [u8; 11_964]
     [BLANK; 11_964]
 }
 
-// The first n words of a list, or all of them.
-fn first_words(words: &[u16], n: usize) -> &[u16] {
-    if words.len() < n {
-        return words;
-    }
-    &words[..n]
-}
-
-// The first n bytes of a list, or all of them.
-fn first_bytes(bytes: &[u8], n: usize) -> &[u8] {
-    if bytes.len() < n {
-        return bytes;
-    }
-    &bytes[..n]
-}
-
-// The first n rows of a list, or all of them.
-fn first_rows(rows: &[u64], n: usize) -> &[u64] {
-    if rows.len() < n {
-        return rows;
-    }
-    &rows[..n]
-}
-
 // How many rows of a reduction are the listing's: those of kinds 1 to 6, which stand before the others.
 fn listing_rows(rows: &[u64]) -> usize {
     let mut i = 0;
@@ -135,27 +114,6 @@ fn listing_rows(rows: &[u64]) -> usize {
         i += 1;
     }
     i
-}
-
-// Blanks a page, so that nothing of an earlier one can stand for it.
-fn blank(page: &mut [u8]) {
-    let mut i = 0;
-    while i < page.len() {
-        page[i] = BLANK;
-        i += 1;
-    }
-}
-
-// Whether a page is blank from a place on.
-fn is_blank(page: &[u8], from: usize) -> bool {
-    let mut i = from;
-    while i < page.len() {
-        if page[i] != BLANK {
-            return false;
-        }
-        i += 1;
-    }
-    true
 }
 
 // How many bytes this many plans of the day take; no more than all of them are asked for.
@@ -200,7 +158,7 @@ fn is_part(listed: Listed, whole: Whole, first: u64, room: u64, plans: &[u8], pa
     if !same(page, 0, plans, bytes_of(first), size) {
         return false;
     }
-    is_blank(page, size)
+    is_filled(page, size, BLANK)
 }
 
 // One page in what is lent for it.
@@ -216,7 +174,7 @@ fn page_agrees(
     plans: &[u8],
     page: &mut [u8],
 ) -> bool {
-    blank(page);
+    fill(page, BLANK);
     let listed = list_plans(
         counts,
         mins,

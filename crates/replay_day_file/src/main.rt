@@ -2,6 +2,8 @@
 use cases::Next;
 use cases::Tally;
 use cases::byte;
+use cases::ended;
+use cases::is_filled;
 use cases::number;
 use cases::plus;
 use cases::word;
@@ -80,17 +82,6 @@ fn words_kept(pool: &[u16]) -> bool {
     let mut i = 0;
     while i < pool.len() {
         if pool[i] != BEFORE as u16 {
-            return false;
-        }
-        i += 1;
-    }
-    true
-}
-
-fn bytes_kept(pool: &[u8]) -> bool {
-    let mut i = 0;
-    while i < pool.len() {
-        if pool[i] != BEFORE {
             return false;
         }
         i += 1;
@@ -179,7 +170,7 @@ fn all_kept(
     if !words_kept(maxs) {
         return false;
     }
-    if !bytes_kept(optional) {
+    if !is_filled(optional, 0, BEFORE) {
         return false;
     }
     if !words_kept(levels) {
@@ -305,15 +296,6 @@ fn agrees(bytes: &[u8]) -> bool {
         return false;
     }
     file_agrees(bytes, end, &bytes[4..end])
-}
-
-// What the end of the file adds: a broken record is a difference.
-fn ended(next: Next, tally: Tally) -> Tally {
-    match next {
-        Next::Record(_) => tally,
-        Next::End => tally,
-        Next::Broken => tally.with(false),
-    }
 }
 
 // Every record of the file.

@@ -1,7 +1,14 @@
 // Replays listings whose answers a brute force gave: totals, nodes, every page of several sizes, and budgets around the node count.
+use cases::BLANK;
 use cases::Next;
 use cases::Tally;
 use cases::byte;
+use cases::ended;
+use cases::fill;
+use cases::first_bytes;
+use cases::first_rows;
+use cases::first_words;
+use cases::is_filled;
 use cases::number;
 use cases::plus;
 use cases::same;
@@ -11,9 +18,6 @@ use listing::list_plans::Listed;
 use listing::list_plans::list_plans;
 ghost use mathlib.Core.Path.{_≡_};
 ghost use lib.ListN.{length};
-
-// What a byte of the lent buffer holds before a call.
-const BLANK: u8 = 119;
 
 // What a case expects: its total and nodes, and where its plans stand in the record.
 struct Expected {
@@ -72,51 +76,6 @@ fn read_rows(bytes: &[u8], at: usize) -> [u64; 16]
     rows
 }
 
-// The first n words of a list, or all of them.
-fn first_words(words: &[u16], n: usize) -> &[u16] {
-    if words.len() < n {
-        return words;
-    }
-    &words[..n]
-}
-
-// The first n bytes of a list, or all of them.
-fn first_bytes(bytes: &[u8], n: usize) -> &[u8] {
-    if bytes.len() < n {
-        return bytes;
-    }
-    &bytes[..n]
-}
-
-// The first n rows of a list, or all of them.
-fn first_rows(rows: &[u64], n: usize) -> &[u64] {
-    if rows.len() < n {
-        return rows;
-    }
-    &rows[..n]
-}
-
-// Blanks what is lent.
-fn blank(buffer: &mut [u8]) {
-    let mut i = 0;
-    while i < buffer.len() {
-        buffer[i] = BLANK;
-        i += 1;
-    }
-}
-
-// Whether the buffer is blank from a place on.
-fn is_blank(buffer: &[u8], from: usize) -> bool {
-    let mut i = from;
-    while i < buffer.len() {
-        if buffer[i] != BLANK {
-            return false;
-        }
-        i += 1;
-    }
-    true
-}
-
 // How many plans a page from the first number on holds.
 fn on_page(total: u64, first: u64, room: u64) -> u64 {
     if total <= first {
@@ -163,7 +122,7 @@ fn is_page(
     if !same(buffer, 0, bytes, at, size) {
         return false;
     }
-    is_blank(buffer, size)
+    is_filled(buffer, size, BLANK)
 }
 
 // One page in what is lent for it.
@@ -180,7 +139,7 @@ fn lent_page(
     bytes: &[u8],
     lent: &mut [u8],
 ) -> bool {
-    blank(lent);
+    fill(lent, BLANK);
     let listed = list_plans(
         counts,
         mins,
@@ -287,12 +246,12 @@ fn lent_turns(
     budget: u64,
     lent: &mut [u8],
 ) -> bool {
-    blank(lent);
+    fill(lent, BLANK);
     let listed = list_plans(counts, mins, maxs, optional, rows, 0, room, budget, lent);
     let Listed::Turns = listed else {
         return false;
     };
-    is_blank(lent, 0)
+    is_filled(lent, 0, BLANK)
 }
 
 // One node too few: out of turns.
@@ -509,15 +468,6 @@ fn agrees(bytes: &[u8], buffer: &mut [u8]) -> bool {
         bytes,
         buffer,
     )
-}
-
-// What the end of the file adds: a broken record is a difference.
-fn ended(next: Next, tally: Tally) -> Tally {
-    match next {
-        Next::Record(_) => tally,
-        Next::End => tally,
-        Next::Broken => tally.with(false),
-    }
 }
 
 // Every record of the file.

@@ -1,6 +1,10 @@
 // Replays whole texts of the program `plans`, whose answers were told from document 01 alone.
+use cases::BLANK;
 use cases::Next;
 use cases::Tally;
+use cases::ended;
+use cases::fill;
+use cases::is_filled;
 use cases::number;
 use cases::plus;
 use cases::same;
@@ -11,9 +15,6 @@ use planner::plans::Told;
 use planner::plans::plans_text;
 ghost use mathlib.Core.Path.{_≡_};
 ghost use lib.ListN.{length};
-
-// What the pool of the text holds before a call, to see that all of it is cleared or none.
-const BLANK: u8 = 119;
 
 // The length that marks a case with no text.
 const NO_TEXT: usize = 0xffff_ffff;
@@ -38,27 +39,6 @@ fn record_pool() -> [u8; 65_536]
 // The four bytes from a place on, high byte first.
 fn length_at(bytes: &[u8], at: usize) -> usize {
     (word(bytes, at) as usize) * 65_536 + (word(bytes, plus(at, 2)) as usize)
-}
-
-// Blanks the pool.
-fn blank(text: &mut [u8]) {
-    let mut i = 0;
-    while i < text.len() {
-        text[i] = BLANK;
-        i += 1;
-    }
-}
-
-// Whether every byte of the pool from a place on is this one.
-fn is_filled(text: &[u8], from: usize, byte: u8) -> bool {
-    let mut i = from;
-    while i < text.len() {
-        if text[i] != byte {
-            return false;
-        }
-        i += 1;
-    }
-    true
 }
 
 // Whether the pool holds the text that stands from a place on with its length before it, and zeros past it.
@@ -98,7 +78,7 @@ fn agrees(bytes: &[u8], text: &mut [u8]) -> bool {
     if bytes.len() < end {
         return false;
     }
-    blank(text);
+    fill(text, BLANK);
     let told = plans_text(
         &bytes[FILE_AT..end],
         number(bytes, 0),
@@ -107,15 +87,6 @@ fn agrees(bytes: &[u8], text: &mut [u8]) -> bool {
         text,
     );
     told_agrees(bytes, end, told, text)
-}
-
-// What the end of the file adds: a broken record is a difference.
-fn ended(next: Next, tally: Tally) -> Tally {
-    match next {
-        Next::Record(_) => tally,
-        Next::End => tally,
-        Next::Broken => tally.with(false),
-    }
 }
 
 // Every record of the file.

@@ -2,6 +2,7 @@
 use cases::Next;
 use cases::Tally;
 use cases::byte;
+use cases::ended;
 use cases::plus;
 use cases::same;
 use cases::word;
@@ -151,15 +152,6 @@ fn agrees(bytes: &[u8]) -> bool {
     }
     let entries = plus(plus(groups, choices), 1 + byte(bytes, groups) as usize);
     entries_agree(bytes, entries, choices, state)
-}
-
-// What the end of the file adds: a broken record is a difference.
-fn ended(next: Next, tally: Tally) -> Tally {
-    match next {
-        Next::Record(_) => tally,
-        Next::End => tally,
-        Next::Broken => tally.with(false),
-    }
 }
 
 // Every record of the file.

@@ -1,0 +1,25 @@
+-- A tally by the case that it counts: one that agrees, the first that differs, a later one.
+use mathlib.Core.Bool.{Bool, true, false}
+use mathlib.Core.Path.{_≡_}
+use Prim.Native.Nat.{ℕ, _+_, _%_, _^_}
+use borrow.Author.Tests.{ne-eqb}
+use Rattle.cases.specs.declared.Tally.{Tally}
+use Rattle.cases.specs.Tallies.{counted}
+
+abbrev pub tallied : ℕ → ℕ → ℕ → Tally
+tallied cases differ first = record { cases = cases; differ = differ; first = first }
+
+pub agreed : (cases differ first n : ℕ) (agrees : Bool) → agrees ≡ true → n ≡ (cases + 1) % 2 ^ 64
+    → tallied n differ first ≡ counted (tallied cases differ first) agrees
+unfolding counted
+agreed cases differ first n agrees a e = rw (a, e)
+
+pub first-differs : (cases differ first n : ℕ) (agrees : Bool) → agrees ≡ false → differ ≡ 0 → n ≡ (cases + 1) % 2 ^ 64
+    → tallied n 1 cases ≡ counted (tallied cases differ first) agrees
+unfolding counted
+first-differs cases differ first n agrees a z e = rw (a, z, e)
+
+pub differs : (cases differ first n m : ℕ) (agrees : Bool) → agrees ≡ false → (differ ≡ 0 → ⊥) → n ≡ (cases + 1) % 2 ^ 64 → m ≡ (differ + 1) % 2 ^ 64
+    → tallied n m first ≡ counted (tallied cases differ first) agrees
+unfolding counted
+differs cases differ first n m agrees a z e f = rw (a, e, f, ne-eqb _ _ z)
