@@ -1,3 +1,4 @@
+pub mod Alike
 pub mod Filled
 pub mod Numbers
 pub mod Tallies

@@ -4,6 +4,7 @@ use libc::STDOUT_FILENO;
 ghost use mathlib.Core.Path.{_≡_};
 ghost use Prim.Native.Nat.{_+_, _%_, _^_};
 ghost use lib.ListN.{length, getD, take, drop, replicate};
+ghost use Rattle.cases.specs.Alike.{alike};
 ghost use Rattle.cases.specs.Filled.{filled};
 ghost use Rattle.cases.specs.Numbers.{wordAt, numberAt};
 ghost use Rattle.cases.specs.Tallies.{counted, closed};
@@ -165,7 +166,9 @@ pub fn ended(next: Next, tally: Tally) -> Tally
 }
 
 // Whether n bytes of one list, from a place on, are those of another from another place on; past its end a list has zeros.
-pub fn same(one: &[u8], from: usize, other: &[u8], at: usize, n: usize) -> bool {
+pub fn same(one: &[u8], from: usize, other: &[u8], at: usize, n: usize) -> bool
+    ensures { λ r. ⌜ r ≡ alike (now (one .entry)) from (now (other .entry)) at n ⌝ }
+{
     let mut i = 0;
     while i < n {
         if byte(one, plus(from, i)) != byte(other, plus(at, i)) {

@@ -13,7 +13,7 @@ use lib.Seq.{drop-cons}
 use Rattle.lists.specs.All.{allOf}
 use Rattle.lists.proofs.All.{all-passes, all-fails, all-passed}
 use Rattle.lists.proofs.Below.{and-left, and-right}
-use Rattle.planner.specs.Number.{isDigit, valueFrom, isNumber, numberOf}
+use Rattle.planner.specs.Number.{isDigit, valueFrom, isNumber, numberIn}
 use Rattle.planner.specs.declared.number.Number.the-variants as number
 
 -- a byte below `0` is no digit
@@ -40,13 +40,13 @@ value-least value (byte ∷ bytes) =
     omega arith
 
 -- nothing is no number
-pub number-empty : (bytes : List ℕ) → length bytes ≡ 0 → number.None ≡ numberOf bytes
-unfolding isNumber numberOf
+pub number-empty : (bytes : List ℕ) → length bytes ≡ 0 → number.None ≡ numberIn bytes
+unfolding isNumber numberIn
 number-empty bytes e = rw e
 
 -- neither is what has another byte than digits
-number-other : (bytes : List ℕ) → allOf isDigit bytes ≡ false → number.None ≡ numberOf bytes
-unfolding isNumber numberOf
+number-other : (bytes : List ℕ) → allOf isDigit bytes ≡ false → number.None ≡ numberIn bytes
+unfolding isNumber numberIn
 number-other bytes e = rw e (go (leb 1 (length bytes)))
   where
     go : (a : Bool) → number.None ≡ cond (a && false && ltb (valueFrom 0 bytes) (2 ^ 64)) (number.Value (valueFrom 0 bytes)) number.None
@@ -54,8 +54,8 @@ number-other bytes e = rw e (go (leb 1 (length bytes)))
     go false = refl
 
 -- nor what is too large
-number-large : (bytes : List ℕ) → 2 ^ 64 ≤ valueFrom 0 bytes → number.None ≡ numberOf bytes
-unfolding isNumber numberOf
+number-large : (bytes : List ℕ) → 2 ^ 64 ≤ valueFrom 0 bytes → number.None ≡ numberIn bytes
+unfolding isNumber numberIn
 number-large bytes h = rw (le-ltb (valueFrom 0 bytes) (2 ^ 64) h) (go (leb 1 (length bytes)) (allOf isDigit bytes))
   where
     go : (a b : Bool) → number.None ≡ cond (a && b && false) (number.Value (valueFrom 0 bytes)) number.None
@@ -66,8 +66,8 @@ number-large bytes h = rw (le-ltb (valueFrom 0 bytes) (2 ^ 64) h) (go (leb 1 (le
 
 -- everything else is its value
 number-value : (bytes : List ℕ) (value : ℕ) → 1 ≤ length bytes → allOf isDigit bytes ≡ true → valueFrom 0 bytes ≡ value → value < 2 ^ 64
-    → number.Value value ≡ numberOf bytes
-unfolding isNumber numberOf
+    → number.Value value ≡ numberIn bytes
+unfolding isNumber numberIn
 number-value bytes value h e v l = rw (le-leb 1 (length bytes) h, e, v, lt-ltb value (2 ^ 64) l)
 
 -- the loop: the bytes before i are digits, and their value is read
@@ -93,11 +93,11 @@ module _ {bytes : List ℕ} {value i : ℕ} (r : Reading bytes value i) where
   step h = sym (rw (add-one i, drop-cons bytes i 0 h)) ∙ r .valued
 
   -- another byte ends it
-  pub reading-other : i < length bytes → isDigit (getD bytes i 0) ≡ false → number.None ≡ numberOf bytes
+  pub reading-other : i < length bytes → isDigit (getD bytes i 0) ≡ false → number.None ≡ numberIn bytes
   reading-other h t = number-other bytes (sym (r .digits) ∙ all-fails isDigit bytes i 0 h t)
 
   -- a value that grows too large ends it
-  pub reading-large : i < length bytes → 2 ^ 64 ≤ 10 * value + (getD bytes i 0 - 48) → number.None ≡ numberOf bytes
+  pub reading-large : i < length bytes → 2 ^ 64 ≤ 10 * value + (getD bytes i 0 - 48) → number.None ≡ numberIn bytes
   reading-large h l =
       number-large bytes (rw (sym (step h)) (le-trans l (value-least (10 * value + (getD bytes i 0 - 48)) (drop (i + 1) bytes))))
 
@@ -114,7 +114,7 @@ module _ {bytes : List ℕ} {value i : ℕ} (r : Reading bytes value i) where
       }
 
   -- all is read
-  pub reading-end : length bytes ≤ i → number.Value value ≡ numberOf bytes
+  pub reading-end : length bytes ≤ i → number.Value value ≡ numberIn bytes
   unfolding valueFrom
   reading-end h =
       let v : valueFrom 0 bytes ≡ value = sym (r .valued) ∙ rw (drop-of-length-le bytes {i = i} h) in

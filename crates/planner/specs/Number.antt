@@ -21,5 +21,6 @@ valueFrom value (byte ∷ bytes) = valueFrom (10 * value + (byte - 48)) bytes
 unfoldable pub isNumber : List ℕ → Bool
 isNumber bytes = leb 1 (length bytes) && allOf isDigit bytes && ltb (valueFrom 0 bytes) (2 ^ 64)
 
-unfoldable pub numberOf : List ℕ → Number
-numberOf bytes = cond (isNumber bytes) (number.Value (valueFrom 0 bytes)) number.None
+-- the number that the bytes are, or none
+unfoldable pub numberIn : List ℕ → Number
+numberIn bytes = cond (isNumber bytes) (number.Value (valueFrom 0 bytes)) number.None

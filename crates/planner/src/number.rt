@@ -1,6 +1,6 @@
 // A number read from its digits.
 ghost use mathlib.Core.Path.{_≡_};
-ghost use Rattle.planner.specs.Number.{isDigit, numberOf};
+ghost use Rattle.planner.specs.Number.{isDigit, numberIn};
 
 // What the bytes are: a number of 64 bits, or none.
 pub enum Number {
@@ -20,7 +20,7 @@ fn is_digit(byte: u8) -> bool
 
 // The number in decimal that the bytes are, of digits alone and below 2^64.
 pub fn number_of(bytes: &[u8]) -> Number
-    ensures { λ r. ⌜ r ≡ numberOf (now (bytes .entry)) ⌝ }
+    ensures { λ r. ⌜ r ≡ numberIn (now (bytes .entry)) ⌝ }
 {
     if bytes.len() == 0 {
         return Number::None;
