@@ -1,7 +1,7 @@
 -- The row check, a law for each way through its functions.
 use mathlib.Core.Path.{_≡_, refl, sym, _∙_, ap}
 use mathlib.Core.Bool.{Bool, true, false, _&&_, cond}
-use mathlib.Core.List.{List}
+use mathlib.Core.List.{List, [], _∷_}
 use Prim.Native.Nat.{ℕ, _+_, _≤_, _<_}
 use native.Mathlib.Omega.{arith}
 use borrow.Author.Tests.{lt-ltb, le-ltb, le-leb, lt-leb, eq-eqb, ne-eqb}
@@ -11,43 +11,31 @@ use Rattle.lists.specs.First.{firstFailing}
 use Rattle.lists.proofs.First.{first-passes, first-fails}
 use Rattle.constraint.specs.Kind.{columnsOf}
 use Rattle.constraint.specs.Row.{rowOf}
-use Rattle.constraint.specs.Check.{takesPart, columnHolds, faultOf, faultless, rowKeeps, rowsOf, countsInRange, mostRows, checkOf}
+use Rattle.constraint.specs.Told.{refused, refuse, good}
+use Rattle.constraint.specs.Check.{takesPart, columnHolds, rowKeeps, rowsJudged, countsInRange, mostRows, checkOf}
 use Rattle.constraint.specs.declared.kind.Columns.{Columns}
-use Rattle.constraint.specs.declared.row.Row.{Row}
 use Rattle.constraint.specs.declared.check.Counts.{Counts}
 use Rattle.constraint.specs.declared.check.Takes.{Takes}
-use Rattle.constraint.specs.declared.check.Fault.{Fault}
-use Rattle.constraint.specs.declared.check.Fault.the-variants as fault
-use Rattle.constraint.specs.declared.check.Checked.{Checked}
-use Rattle.constraint.specs.declared.check.Checked.the-variants.{Good, Refused}
-use Rattle.constraint.specs.declared.refusal.Refusal.the-variants as refusal
 
--- the row's columns are judged one after the other
-module _ (counts : Counts) (takes : Takes) (row : Row) {columns : Columns} (e : columns ≡ columnsOf (row .kind)) where
-  pub fault-kind : takesPart takes (columns .0) ≡ false → fault.Kind ≡ faultOf counts takes row
-  unfolding faultOf
-  fault-kind t = rw (sym e, t)
+-- a number's columns are judged one after the other
+module _ (counts : Counts) (takes : Takes) (number : ℕ) {columns : Columns} (e : columns ≡ columnsOf (rowOf number .kind)) where
+  pub kind-fails : takesPart takes (columns .0) ≡ false → false ≡ rowKeeps counts takes number
+  unfolding rowKeeps
+  kind-fails t = rw (sym e, t)
 
-  pub fault-left : takesPart takes (columns .0) ≡ true → columnHolds counts (columns .1) (row .left) ≡ false → fault.Left ≡ faultOf counts takes row
-  unfolding faultOf
-  fault-left t l = rw (sym e, t, l)
+  pub left-fails : takesPart takes (columns .0) ≡ true → columnHolds counts (columns .1) (rowOf number .left) ≡ false → false ≡ rowKeeps counts takes number
+  unfolding rowKeeps
+  left-fails t l = rw (sym e, t, l)
 
-  pub fault-right : takesPart takes (columns .0) ≡ true → columnHolds counts (columns .1) (row .left) ≡ true
-      → columnHolds counts (columns .2) (row .right) ≡ false → fault.Right ≡ faultOf counts takes row
-  unfolding faultOf
-  fault-right t l r = rw (sym e, t, l, r)
+  pub right-fails : takesPart takes (columns .0) ≡ true → columnHolds counts (columns .1) (rowOf number .left) ≡ true
+      → columnHolds counts (columns .2) (rowOf number .right) ≡ false → false ≡ rowKeeps counts takes number
+  unfolding rowKeeps
+  right-fails t l r = rw (sym e, t, l, r)
 
-  pub fault-extra : (b : Bool) → takesPart takes (columns .0) ≡ true → columnHolds counts (columns .1) (row .left) ≡ true
-      → columnHolds counts (columns .2) (row .right) ≡ true → columnHolds counts (columns .3) (row .extra) ≡ b
-      → cond b fault.None fault.Extra ≡ faultOf counts takes row
-  unfolding faultOf
-  fault-extra b t l r x = rw (sym e, t, l, r, x)
-
--- a number keeps the table by the fault of its row
-pub keeps-by : (counts : Counts) (takes : Takes) (number : ℕ) {row : Row} {fault : Fault} → row ≡ rowOf number → fault ≡ faultOf counts takes row
-    → faultless fault ≡ rowKeeps counts takes number
-unfolding rowKeeps
-keeps-by counts takes number e f = ap faultless (f ∙ ap (faultOf counts takes) e)
+  pub extra-decides : (b : Bool) → takesPart takes (columns .0) ≡ true → columnHolds counts (columns .1) (rowOf number .left) ≡ true
+      → columnHolds counts (columns .2) (rowOf number .right) ≡ true → columnHolds counts (columns .3) (rowOf number .extra) ≡ b → b ≡ rowKeeps counts takes number
+  unfolding rowKeeps
+  extra-decides b t l r x = rw (sym e, t, l, r, x)
 
 module _ (counts : Counts) (takes : Takes) (rows : List ℕ) where
   -- the search for the first bad row, from place i on
@@ -62,14 +50,14 @@ module _ (counts : Counts) (takes : Takes) (rows : List ℕ) where
   unfolding RowsFrom
   from-next i h f t = f ∙ first-passes (rowKeeps counts takes) rows i 0 h t
 
-  pub stops-at : (i : ℕ) → i < length rows → RowsFrom i → rowKeeps counts takes (getD rows i 0) ≡ false → Refused (refusal.Row i) ≡ rowsOf counts takes rows
-  unfolding RowsFrom rowsOf
+  pub stops-at : (i : ℕ) → i < length rows → RowsFrom i → rowKeeps counts takes (getD rows i 0) ≡ false → refused 5 (i ∷ []) ≡ rowsJudged counts takes rows
+  unfolding RowsFrom rowsJudged
   stops-at i h f t =
       let e : firstFailing (rowKeeps counts takes) rows ≡ i = omega (arith, first-fails (rowKeeps counts takes) rows i 0 h t) in
       rw (e, lt-ltb i (length rows) h)
 
-  pub none-bad : (i : ℕ) → length rows ≤ i → RowsFrom i → Good ≡ rowsOf counts takes rows
-  unfolding RowsFrom rowsOf
+  pub none-bad : (i : ℕ) → length rows ≤ i → RowsFrom i → good ≡ rowsJudged counts takes rows
+  unfolding RowsFrom rowsJudged
   none-bad i h f = rw (le-ltb (firstFailing (rowKeeps counts takes) rows) (length rows) (omega arith))
 
 -- the counts, one test after the other
@@ -92,14 +80,14 @@ module _ (counts : Counts) (takes : Takes) where
 
 -- the call: 1 before 2, 2 before 5
 module _ (counts : Counts) (takes : Takes) (rows : List ℕ) where
-  pub call-count : countsInRange counts takes ≡ false → Refused refusal.Count ≡ checkOf counts takes rows
+  pub call-count : countsInRange counts takes ≡ false → refuse 1 ≡ checkOf counts takes rows
   unfolding checkOf
   call-count h = rw h
 
-  pub call-length : countsInRange counts takes ≡ true → (length rows ≡ counts .rows → ⊥) → Refused refusal.Length ≡ checkOf counts takes rows
+  pub call-length : countsInRange counts takes ≡ true → (length rows ≡ counts .rows → ⊥) → refuse 2 ≡ checkOf counts takes rows
   unfolding checkOf
   call-length h n = rw (h, ne-eqb _ _ n)
 
-  pub call-rows : countsInRange counts takes ≡ true → length rows ≡ counts .rows → rowsOf counts takes rows ≡ checkOf counts takes rows
+  pub call-rows : countsInRange counts takes ≡ true → length rows ≡ counts .rows → rowsJudged counts takes rows ≡ checkOf counts takes rows
   unfolding checkOf
   call-rows h e = rw (h, eq-eqb _ _ e)

@@ -50,9 +50,9 @@ over-table takes low high h refused agree kind =
     above false e = refl
 
 -- a day's given rows: kinds 1 to 15
-pub takes-all : (kind : ℕ) → takesKind takes.All kind ≡ (leb 1 kind && leb kind 15)
+pub takes-given : (kind : ℕ) → takesKind takes.Given kind ≡ (leb 1 kind && leb kind 15)
 unfolding allBelow columnsOf kinds between
-takes-all = over-table takes.All 1 15 (omega arith) refl refl
+takes-given = over-table takes.Given 1 15 (omega arith) refl refl
 
 -- 'Search and plan check take kinds 1 to 6 only'
 pub takes-scheduling : (kind : ℕ) → takesKind takes.Scheduling kind ≡ (leb 1 kind && leb kind 6)

@@ -4,8 +4,8 @@ pub mod CountLaws
 pub mod KeptLaws
 pub mod KindLaws
 pub mod LineLaws
-pub mod Numbers
 pub mod Outcomes
 pub mod RowBytes
 pub mod RowLaws
 pub mod SignedLaws
+pub mod ToldLaws

@@ -8,8 +8,8 @@ use lib.ListN.{List·getD-eq-default}
 use Rattle.lists.specs.Below.{allBelow}
 use Rattle.lists.proofs.Below.{all-each}
 use Rattle.constraint.specs.Kind.{kinds, columnsOf, line}
-use Rattle.constraint.specs.Lines.{onLeft, onRight, onExtra}
-use Rattle.constraint.specs.Check.{takesPart, columnHolds, faultless}
+use Rattle.constraint.specs.steps.Lines.{onLeft, onRight, onExtra}
+use Rattle.constraint.specs.Check.{takesPart, columnHolds}
 use Rattle.constraint.specs.declared.kind.Part.{Part}
 use Rattle.constraint.specs.declared.kind.Part.the-variants as part
 use Rattle.constraint.specs.declared.kind.Name.{Name}
@@ -18,23 +18,22 @@ use Rattle.constraint.specs.declared.kind.Columns.{Columns}
 use Rattle.constraint.specs.declared.check.Counts.{Counts}
 use Rattle.constraint.specs.declared.check.Takes.{Takes}
 use Rattle.constraint.specs.declared.check.Takes.the-variants as takes
-use Rattle.constraint.specs.declared.check.Fault.the-variants as fault
 
 -- a test that a refused line need not pass
 abbrev orRefused : Part → Bool → Bool
 orRefused part.Refused b = true
-orRefused part.Given b = b
+orRefused part.GivenOnly b = b
 orRefused part.Scheduling b = b
 orRefused part.Assignment b = b
 
 no-call-takes : (t : Takes) → takesPart t part.Refused ≡ false
-no-call-takes takes.All = refl
+no-call-takes takes.Given = refl
 no-call-takes takes.Scheduling = refl
 no-call-takes takes.Assignment = refl
 
 passed : (t : Takes) (p : Part) (b : Bool) → takesPart t p ≡ true → orRefused p b ≡ true → b ≡ true
 passed t part.Refused b h o = absurd (false≢true (sym (no-call-takes t) ∙ h))
-passed t part.Given b h o = o
+passed t part.GivenOnly b h o = o
 passed t part.Scheduling b h o = o
 passed t part.Assignment b h o = o
 
@@ -70,8 +69,3 @@ extra-named = on-line (λ columns. onExtra (columns .3)) refl
 pub column-is : (counts : Counts) (names : Name) {value column : ℕ} {held b : Bool} → held ≡ columnHolds counts names value → value ≡ column → held ≡ b
     → columnHolds counts names column ≡ b
 column-is counts names h v t = ap (λ (x : ℕ). columnHolds counts names x) (sym v) ∙ sym h ∙ t
-
--- the last column decides
-pub last-decides : (b : Bool) → b ≡ faultless (cond b fault.None fault.Extra)
-last-decides true = refl
-last-decides false = refl

@@ -1,5 +1,5 @@
 -- No two outcomes fit: each public promise of this crate settles the answer for every input.
-use mathlib.Core.Path.{_≡_}
+use mathlib.Core.Path.{_≡_, refl, sym, _∙_, ap}
 use mathlib.Core.Bool.{Bool}
 use mathlib.Core.List.{List}
 use Prim.Native.Nat.{ℕ}
@@ -8,14 +8,16 @@ use Rattle.constraint.specs.Kind.{columnsOf}
 use Rattle.constraint.specs.Op.{isOp}
 use Rattle.constraint.specs.Refusal.{numberOf}
 use Rattle.constraint.specs.Row.{rowOf, rowNumber, plainRow}
-use Rattle.constraint.specs.Check.{faultOf, rowKeeps, rowsOf, countsInRange, checkOf}
+use Rattle.constraint.specs.Check.{rowKeeps, checkedTells, rowsJudged, countsInRange, checkOf}
+use Rattle.constraint.specs.Told.{done, refused, Verdict}
 use Rattle.constraint.specs.declared.kind.Columns.{Columns}
 use Rattle.constraint.specs.declared.refusal.Refusal.{Refusal}
 use Rattle.constraint.specs.declared.row.Row.{Row}
 use Rattle.constraint.specs.declared.check.Counts.{Counts}
 use Rattle.constraint.specs.declared.check.Takes.{Takes}
-use Rattle.constraint.specs.declared.check.Fault.{Fault}
 use Rattle.constraint.specs.declared.check.Checked.{Checked}
+use Rattle.constraint.specs.declared.check.Checked.the-variants.{Good, Refused}
+use Rattle.constraint.proofs.ToldLaws.{refusalOf, refusal-back, one-answer}
 
 pub one-refusal-number : (refusal : Refusal) {a b : ℕ} → a ≡ numberOf refusal → b ≡ numberOf refusal → a ≡ b
 one-refusal-number refusal = no-two
@@ -40,17 +42,29 @@ one-row-number row = no-two
 pub one-plain-row : (kind left right : ℕ) {a b : Row} → a ≡ plainRow kind left right → b ≡ plainRow kind left right → a ≡ b
 one-plain-row kind left right = no-two
 
-pub one-fault : (counts : Counts) (takes : Takes) (row : Row) {a b : Fault} → a ≡ faultOf counts takes row → b ≡ faultOf counts takes row → a ≡ b
-one-fault counts takes row = no-two
-
 pub one-row-keeps : (counts : Counts) (takes : Takes) (number : ℕ) {a b : Bool} → a ≡ rowKeeps counts takes number → b ≡ rowKeeps counts takes number → a ≡ b
 one-row-keeps counts takes number = no-two
 
 pub one-counts-in-range : (counts : Counts) (takes : Takes) {a b : Bool} → a ≡ countsInRange counts takes → b ≡ countsInRange counts takes → a ≡ b
 one-counts-in-range counts takes = no-two
 
-pub one-check-of-each-row : (counts : Counts) (takes : Takes) (rows : List ℕ) {a b : Checked} → a ≡ rowsOf counts takes rows → b ≡ rowsOf counts takes rows → a ≡ b
-one-check-of-each-row counts takes rows = no-two
+-- the row check's answer, read back from what it tells
+abbrev pub checkedOf : Verdict → Checked
+checkedOf (done value) = Good
+checkedOf (refused number carried) = Refused (refusalOf number carried)
 
-pub one-check : (counts : Counts) (takes : Takes) (rows : List ℕ) {a b : Checked} → a ≡ checkOf counts takes rows → b ≡ checkOf counts takes rows → a ≡ b
-one-check counts takes rows = no-two
+pub checked-back : (answer : Checked) → checkedOf (checkedTells answer) ≡ answer
+checked-back Good = refl
+checked-back (Refused why) = ap Refused (refusal-back why)
+
+-- what an answer that is known tells
+pub told-by : {answer known : Checked} {verdict : Verdict} → checkedTells answer ≡ verdict → answer ≡ known → checkedTells known ≡ verdict
+told-by e k = ap checkedTells (sym k) ∙ e
+
+pub one-check-of-each-row : (counts : Counts) (takes : Takes) (rows : List ℕ) {a b : Checked}
+    → checkedTells a ≡ rowsJudged counts takes rows → checkedTells b ≡ rowsJudged counts takes rows → a ≡ b
+one-check-of-each-row counts takes rows = one-answer checkedTells checkedOf checked-back
+
+pub one-check : (counts : Counts) (takes : Takes) (rows : List ℕ) {a b : Checked}
+    → checkedTells a ≡ checkOf counts takes rows → checkedTells b ≡ checkOf counts takes rows → a ≡ b
+one-check counts takes rows = one-answer checkedTells checkedOf checked-back

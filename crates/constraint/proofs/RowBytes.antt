@@ -19,7 +19,7 @@ use Rattle.constraint.specs.declared.kind.Name.the-variants as name
 use Rattle.constraint.specs.declared.kind.Columns.{Columns}
 use Rattle.constraint.specs.declared.check.Counts.{Counts}
 use Rattle.constraint.specs.declared.check.Takes.the-variants as takes
-use Rattle.constraint.proofs.KindLaws.{takes-all}
+use Rattle.constraint.proofs.KindLaws.{takes-given}
 use Rattle.constraint.proofs.KeptLaws.{kept}
 
 -- every line of the table but the refused ones names a choice, a slot or a chooser on the left
@@ -34,7 +34,7 @@ isNumber name.Op = false
 
 abbrev namesLeft : Part → Name → Bool
 namesLeft part.Refused n = true
-namesLeft part.Given n = isNumber n
+namesLeft part.GivenOnly n = isNumber n
 namesLeft part.Scheduling n = isNumber n
 namesLeft part.Assignment n = isNumber n
 
@@ -46,17 +46,17 @@ names-left kind =
       | no h ↦ ap (λ (c : Columns). namesLeft (c .0) (c .1)) (List·getD-eq-default kinds (line part.Refused name.None name.None name.None) {n = kind} (omega arith))
     ]
 
-module _ (counts : Counts) (number : ℕ) (h : rowKeeps counts takes.All number ≡ true) where
+module _ (counts : Counts) (number : ℕ) (h : rowKeeps counts takes.Given number ≡ true) where
   -- the kind is one of the table's
   pub keeps-kind : rowOf number .kind ≤ 15
   keeps-kind =
-      let t = kept counts takes.All number h .kind in
-      leb-true _ _ (and-right (leb 1 (rowOf number .kind)) (leb (rowOf number .kind) 15) (sym (takes-all (rowOf number .kind)) ∙ t))
+      let t = kept counts takes.Given number h .kind in
+      leb-true _ _ (and-right (leb 1 (rowOf number .kind)) (leb (rowOf number .kind) 15) (sym (takes-given (rowOf number .kind)) ∙ t))
 
   -- the left column is under any number that each of the three counts is at most
   pub keeps-left : (most : ℕ) → counts .choices ≤ most → counts .slots ≤ most → counts .choosers ≤ most → rowOf number .left < most
   keeps-left most c s p =
-      let k = kept counts takes.All number h in
+      let k = kept counts takes.Given number h in
       go (columnsOf (rowOf number .kind) .0) (columnsOf (rowOf number .kind) .1) (names-left (rowOf number .kind)) (k .kind) (k .left)
     where
       named : (n : Name) → isNumber n ≡ true → columnHolds counts n (rowOf number .left) ≡ true → rowOf number .left < most
@@ -68,9 +68,9 @@ module _ (counts : Counts) (number : ℕ) (h : rowKeeps counts takes.All number 
       named name.Offset t k = absurd (false≢true t)
       named name.Op t k = absurd (false≢true t)
 
-      go : (q : Part) (n : Name) → namesLeft q n ≡ true → takesPart takes.All q ≡ true → columnHolds counts n (rowOf number .left) ≡ true
+      go : (q : Part) (n : Name) → namesLeft q n ≡ true → takesPart takes.Given q ≡ true → columnHolds counts n (rowOf number .left) ≡ true
           → rowOf number .left < most
       go part.Refused n t u k = absurd (false≢true u)
-      go part.Given n t u k = named n t k
+      go part.GivenOnly n t u k = named n t k
       go part.Scheduling n t u k = named n t k
       go part.Assignment n t u k = named n t k

@@ -1,6 +1,6 @@
 -- The row check: what the table asks of a row, the ranges of the counts, and the answer of the call.
 use mathlib.Core.Bool.{Bool, true, false, _&&_, not, cond}
-use mathlib.Core.List.{List}
+use mathlib.Core.List.{List, [], _∷_}
 use Prim.Native.Nat.{ℕ, _≤_}
 use lib.Dec.{eqb, ltb, leb}
 use lib.IntN.{pos, negℤ}
@@ -10,32 +10,29 @@ use Rattle.lists.specs.First.{firstFailing}
 use Rattle.constraint.specs.Kind.{columnsOf}
 use Rattle.constraint.specs.Op.{signedOf, extraOf, isOp}
 use Rattle.constraint.specs.Row.{rowOf}
+use Rattle.constraint.specs.Told.{Told, refused, Verdict, good, refusalTells, unless}
 use Rattle.constraint.specs.declared.kind.Part.{Part}
 use Rattle.constraint.specs.declared.kind.Part.the-variants as part
 use Rattle.constraint.specs.declared.kind.Name.{Name}
 use Rattle.constraint.specs.declared.kind.Name.the-variants as name
-use Rattle.constraint.specs.declared.row.Row.{Row}
 use Rattle.constraint.specs.declared.check.Counts.{Counts}
 use Rattle.constraint.specs.declared.check.Takes.{Takes}
 use Rattle.constraint.specs.declared.check.Takes.the-variants as takes
-use Rattle.constraint.specs.declared.check.Fault.{Fault}
-use Rattle.constraint.specs.declared.check.Fault.the-variants as fault
 use Rattle.constraint.specs.declared.check.Checked.{Checked}
 use Rattle.constraint.specs.declared.check.Checked.the-variants.{Good, Refused}
-use Rattle.constraint.specs.declared.refusal.Refusal.the-variants as refusal
 
 -- which parts of the table a call takes: 'Search and plan check take kinds 1 to 6 only, the roster's assignment list 10 to 13 only'
 abbrev pub takesPart : Takes → Part → Bool
-takesPart takes.All part.Refused = false
-takesPart takes.All part.Given = true
-takesPart takes.All part.Scheduling = true
-takesPart takes.All part.Assignment = true
+takesPart takes.Given part.Refused = false
+takesPart takes.Given part.GivenOnly = true
+takesPart takes.Given part.Scheduling = true
+takesPart takes.Given part.Assignment = true
 takesPart takes.Scheduling part.Refused = false
-takesPart takes.Scheduling part.Given = false
+takesPart takes.Scheduling part.GivenOnly = false
 takesPart takes.Scheduling part.Scheduling = true
 takesPart takes.Scheduling part.Assignment = false
 takesPart takes.Assignment part.Refused = false
-takesPart takes.Assignment part.Given = false
+takesPart takes.Assignment part.GivenOnly = false
 takesPart takes.Assignment part.Scheduling = false
 takesPart takes.Assignment part.Assignment = true
 
@@ -49,39 +46,30 @@ columnHolds counts name.Limit value = leb value 65535
 columnHolds counts name.Offset value = leZ (negℤ (pos 32767)) (signedOf value) && leZ (signedOf value) (pos 32767)
 columnHolds counts name.Op value = isOp value
 
--- the first bad column: kind, left, right, extra, in that order, and a bad kind hides the rest
-unfoldable pub faultOf : Counts → Takes → Row → Fault
-faultOf counts takes row =
-    let columns = columnsOf (row .kind) in
-    cond (takesPart takes (columns .0))
-    (cond (columnHolds counts (columns .1) (row .left))
-    (cond (columnHolds counts (columns .2) (row .right))
-    (cond (columnHolds counts (columns .3) (row .extra)) fault.None fault.Extra)
-    fault.Right)
-    fault.Left)
-    fault.Kind
-
--- no column is bad
-abbrev pub faultless : Fault → Bool
-faultless fault.None = true
-faultless fault.Kind = false
-faultless fault.Left = false
-faultless fault.Right = false
-faultless fault.Extra = false
-
--- a number of a pool stands for a row that keeps the table
+-- a number of a pool stands for a row that keeps the table: the call takes its kind, and left, right and extra hold what the kind's line names
 unfoldable pub rowKeeps : Counts → Takes → ℕ → Bool
-rowKeeps counts takes number = faultless (faultOf counts takes (rowOf number))
+rowKeeps counts takes number =
+    let row = rowOf number in
+    let columns = columnsOf (row .kind) in
+    takesPart takes (columns .0)
+    && columnHolds counts (columns .1) (row .left)
+    && columnHolds counts (columns .2) (row .right)
+    && columnHolds counts (columns .3) (row .extra)
 
--- good, or 5 with the first row that breaks the table
-unfoldable pub rowsOf : Counts → Takes → List ℕ → Checked
-rowsOf counts takes rows =
+-- what the row check's answer tells
+abbrev pub checkedTells : Checked → Verdict
+checkedTells Good = good
+checkedTells (Refused why) = refusalTells why
+
+-- 5: 'a row breaks the table; carries the first such row'
+unfoldable pub rowsJudged : Counts → Takes → List ℕ → Verdict
+rowsJudged counts takes rows =
     let first = firstFailing (rowKeeps counts takes) rows in
-    cond (ltb first (length rows)) (Refused (refusal.Row first)) Good
+    cond (ltb first (length rows)) (refused 5 (first ∷ [])) good
 
 -- 'given rows 0..128, reduced rows 0..1,024'
 abbrev pub mostRows : Takes → ℕ
-mostRows takes.All = 128
+mostRows takes.Given = 128
 mostRows takes.Scheduling = 1024
 mostRows takes.Assignment = 1024
 
@@ -91,8 +79,8 @@ countsInRange counts takes =
     leb (counts .choices) 64 && leb (counts .slots) 24 && leb (counts .choosers) 200 && leb (counts .rows) (mostRows takes)
 
 -- the call: 1 where a count is out of its range, 2 where the list isn't as long as its count, 5, or good
-unfoldable pub checkOf : Counts → Takes → List ℕ → Checked
+unfoldable pub checkOf : Counts → Takes → List ℕ → Verdict
 checkOf counts takes rows =
-    cond (countsInRange counts takes)
-    (cond (eqb (length rows) (counts .rows)) (rowsOf counts takes rows) (Refused refusal.Length))
-    (Refused refusal.Count)
+    unless (countsInRange counts takes) 1
+    (unless (eqb (length rows) (counts .rows)) 2
+    (rowsJudged counts takes rows))

@@ -3,7 +3,7 @@ use mathlib.Core.List.{List, [], _∷_}
 use Prim.Native.Nat.{ℕ}
 use lib.ListN.{getD}
 use Rattle.constraint.specs.declared.kind.Part.{Part}
-use Rattle.constraint.specs.declared.kind.Part.the-variants.{Refused, Given, Scheduling, Assignment}
+use Rattle.constraint.specs.declared.kind.Part.the-variants.{Refused, GivenOnly, Scheduling, Assignment}
 use Rattle.constraint.specs.declared.kind.Name.{Name}
 use Rattle.constraint.specs.declared.kind.Name.the-variants.{None, Choice, Slot, Chooser, Limit, Offset, Op}
 use Rattle.constraint.specs.declared.kind.Columns.{Columns}
@@ -22,15 +22,15 @@ kinds =
     ∷ line Scheduling Choice Choice None  -- 4
     ∷ line Scheduling Choice Choice Offset  -- 5
     ∷ line Scheduling Slot Limit Op  -- 6
-    ∷ line Given Slot Choice None  -- 7
-    ∷ line Given Slot Choice None  -- 8
-    ∷ line Given Slot Slot None  -- 9
+    ∷ line GivenOnly Slot Choice None  -- 7
+    ∷ line GivenOnly Slot Choice None  -- 8
+    ∷ line GivenOnly Slot Slot None  -- 9
     ∷ line Assignment Choice Choice None  -- 10
     ∷ line Assignment Chooser Choice None  -- 11
     ∷ line Assignment Chooser Choice None  -- 12
     ∷ line Assignment Chooser Chooser None  -- 13
-    ∷ line Given Choice Chooser None  -- 14
-    ∷ line Given Choice Chooser None  -- 15
+    ∷ line GivenOnly Choice Chooser None  -- 14
+    ∷ line GivenOnly Choice Chooser None  -- 15
     ∷ []
 
 -- the table's line for a kind; a kind past the table is refused

@@ -3,4 +3,5 @@ pub mod Kind
 pub mod Op
 pub mod Refusal
 pub mod Row
-pub mod Lines
+pub mod Told
+pub mod steps

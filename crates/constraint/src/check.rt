@@ -1,5 +1,6 @@
 // The row check: the table of kinds held against each row of a list.
 use super::kind::Columns;
+use super::kind::Kind;
 use super::kind::Name;
 use super::kind::Part;
 use super::op::Op;
@@ -9,8 +10,8 @@ ghost use mathlib.Core.Path.{_≡_};
 ghost use mathlib.Core.Bool.{true};
 ghost use Rattle.constraint.specs.Kind.{columnsOf};
 ghost use Rattle.constraint.specs.Row.{rowOf};
-ghost use Rattle.constraint.specs.Lines.{onLeft, onRight, onExtra};
-ghost use Rattle.constraint.specs.Check.{takesPart, columnHolds, faultOf, rowKeeps, mostRows, countsInRange, rowsOf, checkOf};
+ghost use Rattle.constraint.specs.steps.Lines.{onLeft, onRight, onExtra};
+ghost use Rattle.constraint.specs.Check.{takesPart, columnHolds, rowKeeps, mostRows, countsInRange, checkedTells, rowsJudged, checkOf};
 
 // A day's counts as a call is given them: any numbers.
 pub struct Counts {
@@ -20,20 +21,11 @@ pub struct Counts {
     pub rows: usize,
 }
 
-// Which kinds a call takes: all that the table has (a day's given rows), 1 to 6, or 10 to 13.
+// Which list a call takes, with its kinds: a day's given rows (all that the table has), the search's (1 to 6), or the roster's (10 to 13).
 pub enum Takes {
-    All,
+    Given,
     Scheduling,
     Assignment,
-}
-
-// The first bad column of a row, a bad kind hiding the rest.
-pub enum Fault {
-    None,
-    Kind,
-    Left,
-    Right,
-    Extra,
 }
 
 // What the row check answers.
@@ -47,64 +39,25 @@ fn takes_part(takes: Takes, part: Part) -> bool
     ensures { λ r. ⌜ r ≡ takesPart takes part ⌝ }
 {
     match takes {
-        Takes::All => match part {
+        Takes::Given => match part {
             Part::Refused => false,
-            Part::Given => true,
+            Part::GivenOnly => true,
             Part::Scheduling => true,
             Part::Assignment => true,
         },
         Takes::Scheduling => match part {
             Part::Refused => false,
-            Part::Given => false,
+            Part::GivenOnly => false,
             Part::Scheduling => true,
             Part::Assignment => false,
         },
         Takes::Assignment => match part {
             Part::Refused => false,
-            Part::Given => false,
+            Part::GivenOnly => false,
             Part::Scheduling => false,
             Part::Assignment => true,
         },
     }
-}
-
-// Whether a column may hold the value.
-fn column_holds(counts: Counts, names: Name, value: u16) -> bool
-    ensures { λ r. ⌜ r ≡ columnHolds counts names value ⌝ }
-{
-    match names {
-        Name::None => value == Row::NO_EXTRA,
-        Name::Choice => (value as usize) < counts.choices,
-        Name::Slot => (value as usize) < counts.slots,
-        Name::Chooser => (value as usize) < counts.choosers,
-        Name::Limit => true,
-        Name::Offset => 0 < value,
-        Name::Op => Op::is_op(value),
-    }
-}
-
-// The first bad column of a row.
-pub fn fault_of(counts: Counts, takes: Takes, row: Row) -> Fault
-    ensures { λ r. ⌜ r ≡ faultOf counts takes row ⌝ }
-{
-    let columns = Columns::of(row.kind);
-    let part = columns.0;
-    if !takes_part(takes, part) {
-        return Fault::Kind;
-    }
-    let left = columns.1;
-    if !column_holds(counts, left, row.left) {
-        return Fault::Left;
-    }
-    let right = columns.2;
-    if !column_holds(counts, right, row.right) {
-        return Fault::Right;
-    }
-    let extra = columns.3;
-    if !column_holds(counts, extra, row.extra) {
-        return Fault::Extra;
-    }
-    Fault::None
 }
 
 // Whether a left column may hold the value: no line that a call takes names more than these three there.
@@ -171,19 +124,49 @@ pub fn row_keeps(counts: Counts, takes: Takes, number: u64) -> bool
 {
     let kind = Row::kind_of(number);
     match kind {
-        1 => keeps_line(counts, takes, Columns::of(1), number),
-        2 => keeps_line(counts, takes, Columns::of(2), number),
-        3 => keeps_line(counts, takes, Columns::of(3), number),
-        4 => keeps_line(counts, takes, Columns::of(4), number),
-        5 => keeps_line(counts, takes, Columns::of(5), number),
-        6 => keeps_line(counts, takes, Columns::of(6), number),
+        Kind::CHOICE_IS_IN_SLOT => keeps_line(
+            counts,
+            takes,
+            Columns::of(Kind::CHOICE_IS_IN_SLOT),
+            number,
+        ),
+        Kind::CHOICE_IS_NOT_IN_SLOT => keeps_line(
+            counts,
+            takes,
+            Columns::of(Kind::CHOICE_IS_NOT_IN_SLOT),
+            number,
+        ),
+        Kind::CHOICES_ARE_IN_SAME_SLOT => keeps_line(
+            counts,
+            takes,
+            Columns::of(Kind::CHOICES_ARE_IN_SAME_SLOT),
+            number,
+        ),
+        Kind::CHOICES_ARE_NOT_IN_SAME_SLOT => keeps_line(
+            counts,
+            takes,
+            Columns::of(Kind::CHOICES_ARE_NOT_IN_SAME_SLOT),
+            number,
+        ),
+        Kind::CHOICES_HAVE_OFFSET => keeps_line(
+            counts,
+            takes,
+            Columns::of(Kind::CHOICES_HAVE_OFFSET),
+            number,
+        ),
+        Kind::SLOT_HAS_LIMITED_SIZE => keeps_line(
+            counts,
+            takes,
+            Columns::of(Kind::SLOT_HAS_LIMITED_SIZE),
+            number,
+        ),
         _ => keeps_line(counts, takes, Columns::of(kind), number),
     }
 }
 
 // The first row of a list that breaks the table, whatever the counts.
 pub fn check_each_row(counts: Counts, takes: Takes, rows: &[u64]) -> Checked
-    ensures { λ r. ⌜ r ≡ rowsOf counts takes (now (rows .entry)) ⌝ }
+    ensures { λ r. ⌜ checkedTells r ≡ rowsJudged counts takes (now (rows .entry)) ⌝ }
 {
     let mut i = 0;
     while i < rows.len() {
@@ -216,7 +199,7 @@ fn most_rows(takes: Takes) -> usize
     ensures { λ r. ⌜ r ≡ mostRows takes ⌝ }
 {
     match takes {
-        Takes::All => 128,
+        Takes::Given => 128,
         Takes::Scheduling => 1024,
         Takes::Assignment => 1024,
     }
@@ -224,7 +207,7 @@ fn most_rows(takes: Takes) -> usize
 
 // The row check of a call that takes nothing but rows: 1, then 2, then 5 with the first bad row.
 pub fn check_rows(counts: Counts, takes: Takes, rows: &[u64]) -> Checked
-    ensures { λ r. ⌜ r ≡ checkOf counts takes (now (rows .entry)) ⌝ }
+    ensures { λ r. ⌜ checkedTells r ≡ checkOf counts takes (now (rows .entry)) ⌝ }
 {
     if !counts_in_range(counts, takes) {
         return Checked::Refused(Refusal::Count);

@@ -42,7 +42,7 @@ impl Kind {
 // Which lists a kind may stand in: none, a day's given rows alone, or also the search's or the roster's list.
 pub enum Part {
     Refused,
-    Given,
+    GivenOnly,
     Scheduling,
     Assignment,
 }
@@ -70,15 +70,15 @@ const KINDS: [Columns; 16] = [
     Columns(Part::Scheduling, Name::Choice, Name::Choice, Name::None),
     Columns(Part::Scheduling, Name::Choice, Name::Choice, Name::Offset),
     Columns(Part::Scheduling, Name::Slot, Name::Limit, Name::Op),
-    Columns(Part::Given, Name::Slot, Name::Choice, Name::None),
-    Columns(Part::Given, Name::Slot, Name::Choice, Name::None),
-    Columns(Part::Given, Name::Slot, Name::Slot, Name::None),
+    Columns(Part::GivenOnly, Name::Slot, Name::Choice, Name::None),
+    Columns(Part::GivenOnly, Name::Slot, Name::Choice, Name::None),
+    Columns(Part::GivenOnly, Name::Slot, Name::Slot, Name::None),
     Columns(Part::Assignment, Name::Choice, Name::Choice, Name::None),
     Columns(Part::Assignment, Name::Chooser, Name::Choice, Name::None),
     Columns(Part::Assignment, Name::Chooser, Name::Choice, Name::None),
     Columns(Part::Assignment, Name::Chooser, Name::Chooser, Name::None),
-    Columns(Part::Given, Name::Choice, Name::Chooser, Name::None),
-    Columns(Part::Given, Name::Choice, Name::Chooser, Name::None),
+    Columns(Part::GivenOnly, Name::Choice, Name::Chooser, Name::None),
+    Columns(Part::GivenOnly, Name::Choice, Name::Chooser, Name::None),
 ];
 
 impl Columns {

@@ -29,7 +29,7 @@ impl Row {
         }
     }
 
-    // The kind of a number's row. Each column has its function, so that no more of a number is taken apart than is looked at.
+    // The kind of a number's row. Each column has its function for callers that look at one column alone.
     pub fn kind_of(number: u64) -> u16
         ensures { λ r. ⌜ r ≡ rowOf number .kind ⌝ }
     {

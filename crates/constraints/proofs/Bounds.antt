@@ -8,7 +8,7 @@ use native.Mathlib.Omega.{arith}
 use lib.Dec.{eqb}
 use lib.ListN.{length, take, drop, length-append, length-map, length-take, length-drop}
 use Rattle.lists.specs.Keep.{anyOf}
-use Rattle.lists.specs.Cut.{cutAt}
+use Rattle.lists.specs.steps.Cut.{cutAt}
 use Rattle.constraint.specs.Row.{rowOf, rowNumber, plainRow}
 use Rattle.constraint.specs.declared.row.Row.{Row}
 use Rattle.constraints.specs.Turn.{kindOf, turnedRow, turnedOne, turnedRows}

@@ -14,8 +14,8 @@ use Rattle.lists.specs.Sorted.{uniqueSorted}
 use Rattle.lists.proofs.Pad.{length-pad}
 use Rattle.lists.proofs.Sorted.{length-unique}
 use Rattle.lists.proofs.Stores.{take-sets}
-use Rattle.constraint.specs.Check.{countsInRange, rowsOf}
-use Rattle.constraint.specs.Refusal.{numberOf, carriedBy}
+use Rattle.constraint.specs.Check.{countsInRange, rowsJudged, checkedTells}
+use Rattle.constraint.specs.Told.{Verdict, done, refuse, refusalTells, Outcome, outcome, judged}
 use Rattle.constraint.specs.declared.check.Counts.{Counts}
 use Rattle.constraint.specs.declared.check.Takes.the-variants as takes
 use Rattle.constraint.specs.declared.check.Checked.{Checked}
@@ -23,23 +23,28 @@ use Rattle.constraint.specs.declared.check.Checked.the-variants as checked
 use Rattle.constraint.specs.declared.refusal.Refusal.{Refusal}
 use Rattle.constraint.proofs.CountLaws.{within}
 use Rattle.constraints.specs.Turn.{clashOf}
-use Rattle.constraints.specs.Expand.{Filled, Given}
-use Rattle.constraints.specs.Reduction.{expanded, reducedRows, done, refused, left, Left, reductionOf, afterCheck, reduceOf}
+use Rattle.constraints.specs.steps.Expand.{Filled, Given}
+use Rattle.constraints.specs.declared.Reduction.{Reduction}
+use Rattle.constraints.specs.Reduction.{expanded, reducedRows, reductionOf, reduceOf}
+
+-- a count with a flag
+abbrev reduction : ℕ → Bool → Reduction
+reduction count clash = record { count = count; clash = clash }
 
 -- counts in their ranges, and the lengths that go with them
-pub given-of : (counts : Counts) (rows pool : ℕ) → countsInRange counts takes.All ≡ true → rows ≡ counts .rows → pool ≡ 1024 → Given counts rows pool
+pub given-of : (counts : Counts) (rows pool : ℕ) → countsInRange counts takes.Given ≡ true → rows ≡ counts .rows → pool ≡ 1024 → Given counts rows pool
 given-of counts rows pool h r p =
-    let w = within counts takes.All h in
+    let w = within counts takes.Given h in
     let k : counts .rows ≤ 128 = w .rows in
     record { choices-in = w .choices; choosers-in = w .choosers; rows-in = omega arith; pool-is = p }
 
 -- over 1,024 rows: 6, the pool all zero
 module _ (counts : Counts) (rows pool : List ℕ) (total : ℕ) (pool′ : List ℕ) (f : Filled pool (expanded counts rows) total pool′) where
-  pub too-many : {exit : List ℕ} {n : ℕ} → 1024 < total → n ≡ 1024 → exit ≡ replicate n 0 → left (refused 6 []) exit ≡ reductionOf counts rows
+  pub too-many : {exit : List ℕ} {n : ℕ} → 1024 < total → n ≡ 1024 → exit ≡ replicate n 0 → outcome (refuse 6) exit ≡ reductionOf counts rows
   unfolding reductionOf
   too-many {exit} h l e =
-      ap (left (refused 6 [])) (e ∙ ap (λ (k : ℕ). replicate k 0) l)
-      ∙ sym (ap (λ (b : Bool). cond b (left (done (length (reducedRows counts rows)) (clashOf rows)) (pad 1024 (reducedRows counts rows))) (left (refused 6 []) (replicate 1024 0)))
+      ap (outcome (refuse 6)) (e ∙ ap (λ (k : ℕ). replicate k 0) l)
+      ∙ sym (ap (λ (b : Bool). cond b (outcome (done (reduction (length (reducedRows counts rows)) (clashOf rows))) (pad 1024 (reducedRows counts rows))) (outcome (refuse 6) (replicate 1024 0)))
       (lt-leb (length (expanded counts rows)) 1024 (f .past h)))
 
   -- all rows in the pool, sorted with equal ones once, and zeros after them
@@ -92,40 +97,40 @@ module _ (counts : Counts) (rows pool : List ℕ) (total : ℕ) (pool′ : List 
           ∙ append-assoc u (replicate (total - length u) 0) (replicate (1024 - total) 0)
           ∙ ap (λ (z : List ℕ). u ++ z) (replicate-append-replicate (total - length u) (1024 - total) 0 ∙ ap (λ (n : ℕ). replicate n 0) k)
 
-      pub all-reduced : left (done count clash) (putMid total (length (front ++ drop total pool′) - total) (front ++ drop total pool′) back) ≡ reductionOf counts rows
+      pub all-reduced : outcome (done (reduction count clash)) (putMid total (length (front ++ drop total pool′) - total) (front ++ drop total pool′) back) ≡ reductionOf counts rows
       unfolding reductionOf reducedRows exit
       all-reduced =
           let w = f .whole h in
           let n : count ≡ length (reducedRows counts rows) = s .0 ∙ ap (λ (l : List ℕ). length (uniqueSorted l)) rows-read in
-          ap (λ (k : ℕ). left (done k clash) exit) n ∙ ap (λ (k : Bool). left (done (length (reducedRows counts rows)) k) exit) c
-          ∙ ap (left (done (length (reducedRows counts rows)) (clashOf rows))) sorted-exit
-          ∙ sym (ap (λ (b : Bool). cond b (left (done (length (reducedRows counts rows)) (clashOf rows)) (pad 1024 (reducedRows counts rows))) (left (refused 6 []) (replicate 1024 0)))
+          ap (λ (k : ℕ). outcome (done (reduction k clash)) exit) n ∙ ap (λ (k : Bool). outcome (done (reduction (length (reducedRows counts rows)) k)) exit) c
+          ∙ ap (outcome (done (reduction (length (reducedRows counts rows)) (clashOf rows)))) sorted-exit
+          ∙ sym (ap (λ (b : Bool). cond b (outcome (done (reduction (length (reducedRows counts rows)) (clashOf rows))) (pad 1024 (reducedRows counts rows))) (outcome (refuse 6) (replicate 1024 0)))
           (le-leb (length (expanded counts rows)) 1024 (omega (arith, w .0))))
 
 -- the refusals in 01's order
 module _ (counts : Counts) (rows pool : List ℕ) where
-  pub call-count : countsInRange counts takes.All ≡ false → left (refused 1 []) pool ≡ reduceOf counts rows pool
+  pub call-count : countsInRange counts takes.Given ≡ false → outcome (refuse 1) pool ≡ reduceOf counts rows pool
   unfolding reduceOf
   call-count t = rw t
 
-  module _ (t : countsInRange counts takes.All ≡ true) where
-    pub call-rows : (length rows ≡ counts .rows → ⊥) → left (refused 2 []) pool ≡ reduceOf counts rows pool
+  module _ (t : countsInRange counts takes.Given ≡ true) where
+    pub call-rows : (length rows ≡ counts .rows → ⊥) → outcome (refuse 2) pool ≡ reduceOf counts rows pool
     unfolding reduceOf
     call-rows n = rw (t, ne-eqb (length rows) (counts .rows) n)
 
-    pub call-pool : length rows ≡ counts .rows → (length pool ≡ 1024 → ⊥) → left (refused 2 []) pool ≡ reduceOf counts rows pool
+    pub call-pool : length rows ≡ counts .rows → (length pool ≡ 1024 → ⊥) → outcome (refuse 2) pool ≡ reduceOf counts rows pool
     unfolding reduceOf
     call-pool r n = rw (t, eq-eqb (length rows) (counts .rows) r, ne-eqb (length pool) 1024 n)
 
     module _ (r : length rows ≡ counts .rows) (p : length pool ≡ 1024) where
-      call-checked : {answer : Checked} → answer ≡ rowsOf counts takes.All rows → afterCheck answer (reductionOf counts rows) pool ≡ reduceOf counts rows pool
+      call-checked : {told : Verdict} → told ≡ rowsJudged counts takes.Given rows → judged told pool (reductionOf counts rows) ≡ reduceOf counts rows pool
       unfolding reduceOf
-      call-checked e = rw (t, eq-eqb (length rows) (counts .rows) r, eq-eqb (length pool) 1024 p) (ap (λ (a : Checked). afterCheck a (reductionOf counts rows) pool) e)
+      call-checked e = rw (t, eq-eqb (length rows) (counts .rows) r, eq-eqb (length pool) 1024 p) (ap (λ (told : Verdict). judged told pool (reductionOf counts rows)) e)
 
-      pub call-bad : {answer : Checked} (why : Refusal) → answer ≡ rowsOf counts takes.All rows → answer ≡ checked.Refused why
-          → left (refused (numberOf why) (carriedBy why)) pool ≡ reduceOf counts rows pool
-      call-bad why e q = ap (λ (a : Checked). afterCheck a (reductionOf counts rows) pool) (sym q) ∙ call-checked e
+      pub call-bad : {answer : Checked} (why : Refusal) → checkedTells answer ≡ rowsJudged counts takes.Given rows → answer ≡ checked.Refused why
+          → outcome (refusalTells why) pool ≡ reduceOf counts rows pool
+      call-bad why e q = ap (λ (a : Checked). judged (checkedTells a) pool (reductionOf counts rows)) (sym q) ∙ call-checked e
 
-      pub call-good : {answer : Checked} {told : Left} → answer ≡ rowsOf counts takes.All rows → answer ≡ checked.Good → told ≡ reductionOf counts rows
+      pub call-good : {answer : Checked} {told : Outcome Reduction (List ℕ)} → checkedTells answer ≡ rowsJudged counts takes.Given rows → answer ≡ checked.Good → told ≡ reductionOf counts rows
           → told ≡ reduceOf counts rows pool
-      call-good e q g = g ∙ ap (λ (a : Checked). afterCheck a (reductionOf counts rows) pool) (sym q) ∙ call-checked e
+      call-good e q g = g ∙ ap (λ (a : Checked). judged (checkedTells a) pool (reductionOf counts rows)) (sym q) ∙ call-checked e

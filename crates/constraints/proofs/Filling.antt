@@ -10,7 +10,7 @@ use lib.Dec.{ltb}
 use lib.ListN.{length, getD, take, drop, set, replicate, length-append, length-map, length-drop, length-replicate}
 use lib.Seq.{sets, length-sets, take-suc, take-suc-set, take-all, take-at, drop-length}
 use Rattle.lists.specs.Below.{countBelow}
-use Rattle.lists.specs.Cut.{cutAt, EndsFit}
+use Rattle.lists.specs.steps.Cut.{cutAt, EndsFit}
 use Rattle.lists.specs.Group.{classes, heads, endsFrom}
 use Rattle.lists.specs.Pool.{pad}
 use Rattle.lists.proofs.Stores.{sets-append, sets-part, take-sets}
@@ -18,15 +18,15 @@ use Rattle.lists.proofs.Cut.{cut-ends, ends-fit}
 use Rattle.lists.proofs.CountBelow.{count-le}
 use Rattle.lists.proofs.Group.{flat-le, heads-le, length-ends}
 use Rattle.lists.proofs.Pad.{length-pad}
-use Rattle.union_find.specs.Answers.{done, Outcome}
+use Rattle.constraint.specs.Told.{done, outcome}
 use Rattle.union_find.specs.State.{joinAll, rootOf}
-use Rattle.union_find.specs.Groups.{groupsTell, groupsWritten, GroupsTell}
-use Rattle.constraints.specs.Free.{Wrote}
+use Rattle.union_find.specs.Groups.{groupsWritten, GroupsOutcome}
+use Rattle.constraints.specs.steps.Free.{Wrote}
 use Rattle.constraints.specs.Turn.{turnedRows}
 use Rattle.constraints.specs.Groups.{sameChoosers, joins}
 use Rattle.constraints.specs.Pairs.{groupPairs, mandatoryPairs}
 use Rattle.constraints.specs.Copies.{copiesAll}
-use Rattle.constraints.specs.Expand.{Filled, Small, Given}
+use Rattle.constraints.specs.steps.Expand.{Filled, Small, Given}
 use Rattle.constraints.specs.Reduction.{addedTo, expanded}
 use Rattle.constraint.specs.declared.check.Counts.{Counts}
 use Rattle.constraints.proofs.Bounds.{turned-rows-most}
@@ -77,20 +77,20 @@ module _ (choices : ℕ) (rows : List ℕ) (small : choices ≤ 64) where
   groups-flat =
       omega (arith, flat-le choices choices (rootOf (joinAll choices (joins rows))), count-le choices (λ i. ltb (rootOf (joinAll choices (joins rows)) i) choices))
 
-  module _ (count : ℕ) (members ends : List ℕ) (told : groupsTell (done count) members ends ≡ groupsWritten (sameChoosers choices rows)) where
+  module _ (count : ℕ) (members ends : List ℕ) (told : outcome (done count) (members, ends) ≡ groupsWritten (sameChoosers choices rows)) where
     told-count : count ≡ length (sameChoosers choices rows)
     unfolding groupsWritten
     told-count =
-        let e : done count ≡ done (length (sameChoosers choices rows)) = ap (λ (g : GroupsTell). g .answer) told in
+        let e : done count ≡ done (length (sameChoosers choices rows)) = ap (λ (g : GroupsOutcome). g .answer) told in
         cc
 
     told-members : members ≡ flatten (sameChoosers choices rows) ++ replicate (64 - length (flatten (sameChoosers choices rows))) 0
     unfolding groupsWritten pad
-    told-members = ap (λ (g : GroupsTell). g .members) told
+    told-members = ap (λ (g : GroupsOutcome). g .buffers .0) told
 
     told-ends : ends ≡ endsFrom 0 (sameChoosers choices rows) ++ replicate (64 - length (endsFrom 0 (sameChoosers choices rows))) 0
     unfolding groupsWritten pad
-    told-ends = ap (λ (g : GroupsTell). g .ends) told
+    told-ends = ap (λ (g : GroupsOutcome). g .buffers .1) told
 
     pub ends-are : take count ends ≡ endsFrom 0 (sameChoosers choices rows)
     ends-are =
@@ -119,41 +119,46 @@ module _ (choices : ℕ) (rows : List ℕ) (small : choices ≤ 64) where
     ends-within = rw (ends-are, members-length) (ends-fit (sameChoosers choices rows) 0 64 (omega (arith, groups-flat)))
 
 -- the turned rows read back
-module _ (rows : List ℕ) (list list′ : List ℕ) (count : ℕ) (r : length rows ≤ 128) (l : length list ≡ 128) (w : Wrote list 0 (turnedRows rows) count list′) where
+module _ (rows numbers : List ℕ) (count : ℕ) (r : length rows ≤ 128) (w : Wrote (replicate 128 0) 0 (turnedRows rows) count numbers) where
+  room : length {A = ℕ} (replicate 128 0) ≡ 128
+  room = length-replicate {A = ℕ} 128 0
+
   turned-count : count ≡ length (turnedRows rows)
   turned-count = omega (arith, w .0)
 
-  pub turned-is : take count list′ ≡ turnedRows rows
-  turned-is = rw (turned-count, w .1) (take-sets list (turnedRows rows) (omega (arith, turned-rows-most rows)))
+  pub turned-is : take count numbers ≡ turnedRows rows
+  turned-is = rw (turned-count, w .1) (take-sets (replicate 128 0) (turnedRows rows) (omega (arith, room, turned-rows-most rows)))
 
-  pub turned-within : count ≤ length list′
-  turned-within = rw (w .1, length-sets) (omega (arith, turned-count, turned-rows-most rows))
+  pub turned-within : count ≤ length numbers
+  turned-within =
+      let l : length numbers ≡ 128 = ap length (w .1) ∙ length-sets (replicate 128 0) 0 (turnedRows rows) ∙ room in
+      omega (arith, turned-count, turned-rows-most rows)
 
-  pub turned-length : count ≡ length (take count list′)
+  pub turned-length : count ≡ length (take count numbers)
   turned-length = turned-count ∙ ap length (sym turned-is)
 
-  pub turned-small : length (take count list′) ≤ 128
-  turned-small = rw turned-is (omega (arith, turned-rows-most rows))
+  -- they are no more than the given rows
+  pub given-turned : {counts : Counts} {pool : ℕ} → Given counts (length rows) pool → Given counts (length (take count numbers)) pool
+  given-turned g =
+      let l : length (take count numbers) ≡ length (turnedRows rows) = ap length turned-is in
+      record { choices-in = g .choices-in; choosers-in = g .choosers-in; rows-in = omega (arith, turned-rows-most rows); pool-is = g .pool-is }
 
--- the groups of the rows read back are the turned rows' groups
-pub expanded-is : (counts : Counts) (rows turned members ends : List ℕ) → turned ≡ turnedRows rows → cutAt 0 ends members ≡ sameChoosers (counts .choices) turned
-    → addedTo (cutAt 0 ends members) (counts .choosers) turned ≡ expanded counts rows
+-- the groups as they were read back are the rows' groups
+pub filled-added : (choices choosers : ℕ) (rows members wide ends pool exit : List ℕ) (count : ℕ) → wide ≡ members → cutAt 0 ends members ≡ sameChoosers choices rows
+    → Filled pool (addedTo (cutAt 0 ends wide) choosers rows) count exit → Filled pool (addedTo (sameChoosers choices rows) choosers rows) count exit
+filled-added choices choosers rows members wide ends pool exit count w g f =
+    subst (λ (groups : List (List ℕ)). Filled pool (addedTo groups choosers rows) count exit) (ap (cutAt 0 ends) w ∙ g) f
+
+-- and the turned rows as they were read back are the turned rows
+pub filled-expanded : (counts : Counts) (rows turned pool exit : List ℕ) (count : ℕ) → turned ≡ turnedRows rows
+    → Filled pool (addedTo (sameChoosers (counts .choices) turned) (counts .choosers) turned) count exit → Filled pool (expanded counts rows) count exit
 unfolding expanded
-expanded-is counts rows turned members ends t g =
-    ap (λ (z : List (List ℕ)). addedTo z (counts .choosers) turned) g
-    ∙ ap (λ (z : List ℕ). addedTo (sameChoosers (counts .choices) z) (counts .choosers) z) t
-
-pub filled-expanded : (counts : Counts) (rows turned members wide ends pool exit : List ℕ) (count : ℕ) → turned ≡ turnedRows rows → wide ≡ members
-    → cutAt 0 ends members ≡ sameChoosers (counts .choices) turned → Filled pool (addedTo (cutAt 0 ends wide) (counts .choosers) turned) count exit
-    → Filled pool (expanded counts rows) count exit
-filled-expanded counts rows turned members wide ends pool exit count t w g f =
-    subst (λ (all : List ℕ). Filled pool all count exit)
-    (ap (λ (m : List ℕ). addedTo (cutAt 0 ends m) (counts .choosers) turned) w ∙ expanded-is counts rows turned members ends t g)
-    f
+filled-expanded counts rows turned pool exit count t f =
+    subst (λ (z : List ℕ). Filled pool (addedTo (sameChoosers (counts .choices) z) (counts .choosers) z) count exit) t f
 
 -- the groups and the turned rows are as many as the stages ask
 pub small-of : (choices choosers pool : ℕ) (rows wide : List ℕ) (h : choices ≤ 64) (count : ℕ) (members ends : List ℕ)
-    → groupsTell (done count) members ends ≡ groupsWritten (sameChoosers choices rows) → wide ≡ members → choosers ≤ 200 → length rows ≤ 128 → pool ≡ 1024
+    → outcome (done count) (members, ends) ≡ groupsWritten (sameChoosers choices rows) → wide ≡ members → choosers ≤ 200 → length rows ≤ 128 → pool ≡ 1024
     → Small choosers rows wide (take count ends) pool
 small-of choices choosers pool rows wide h count members ends told w c r p =
     let m : length wide ≡ 64 = ap length w ∙ members-length choices rows h count members ends told in

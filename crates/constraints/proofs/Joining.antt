@@ -13,12 +13,12 @@ use Rattle.constraint.specs.Row.{rowOf}
 use Rattle.constraint.specs.declared.row.Row.{Row}
 use Rattle.union_find.specs.declared.UnionFind.{UnionFind}
 use Rattle.union_find.specs.State.{joinOf, joinFrom, joinAll, fresh, rootOf, JoinedTells}
-use Rattle.constraint.specs.Refusal.{numberOf}
+use Rattle.constraint.specs.Told.{Told, done, refusalTells, outcome}
 use Rattle.constraint.specs.declared.refusal.Refusal.{Refusal}
 use Rattle.union_find.specs.declared.Grouped.{Grouped}
 use Rattle.union_find.specs.declared.Grouped.the-variants as grouped
-use Rattle.union_find.specs.Answers.{groupedTells, done, refused}
-use Rattle.union_find.specs.Groups.{groupsOf, groupsWritten, groupsTell, GroupsTell}
+use Rattle.union_find.specs.Answers.{groupedTells}
+use Rattle.union_find.specs.Groups.{groupsOf, groupsWritten, GroupsOutcome}
 use Rattle.union_find.proofs.Made.{never-refused}
 use Rattle.union_find.proofs.Grouping.{groups-wrote}
 use Rattle.constraints.specs.Turn.{kindOf, leftOf, rightOf}
@@ -74,15 +74,15 @@ module _ (choices : ℕ) (rows : List ℕ) where
 
   -- what groups answers
   module _ {uf : UnionFind} {told : Grouped} (members ends members′ ends′ : List ℕ) (e : uf ≡ joinAll choices (joins rows)) (h : choices ≤ 64) (m : length members ≡ 64) (n : length ends ≡ 64)
-      (q : groupsTell (groupedTells told) members′ ends′ ≡ groupsOf choices uf members ends) where
-    pub groups-told : (count : ℕ) → told ≡ grouped.Groups count → groupsTell (done count) members′ ends′ ≡ groupsWritten (sameChoosers choices rows)
-    groups-told count t = ap (λ (g : Grouped). groupsTell (groupedTells g) members′ ends′) (sym t) ∙ q ∙ groups-are members ends e h m n
+      (q : outcome (groupedTells told) (members′, ends′) ≡ groupsOf choices uf members ends) where
+    pub groups-told : (count : ℕ) → told ≡ grouped.Groups count → outcome (done count) (members′, ends′) ≡ groupsWritten (sameChoosers choices rows)
+    groups-told count t = ap (λ (g : Grouped). outcome (groupedTells g) (members′, ends′)) (sym t) ∙ q ∙ groups-are members ends e h m n
 
     pub groups-unrefused : (why : Refusal) → told ≡ grouped.Refused why → ⊥
     unfolding groupsWritten
     groups-unrefused why t =
-        let w : groupsTell (refused (numberOf why)) members′ ends′ ≡ groupsWritten (sameChoosers choices rows) =
-        ap (λ (g : Grouped). groupsTell (groupedTells g) members′ ends′) (sym t) ∙ q ∙ groups-are members ends e h m n in
-        let a : refused (numberOf why) ≡ done (length (sameChoosers choices rows)) = ap (λ (g : GroupsTell). g .answer) w in
+        let w : outcome (refusalTells why) (members′, ends′) ≡ groupsWritten (sameChoosers choices rows) =
+        ap (λ (g : Grouped). outcome (groupedTells g) (members′, ends′)) (sym t) ∙ q ∙ groups-are members ends e h m n in
+        let a : refusalTells why ≡ done (length (sameChoosers choices rows)) = ap (λ (g : GroupsOutcome). g .answer) w in
         let z : _≡_ {A = ℕ} 0 1 = cc in
         absurd (omega arith)

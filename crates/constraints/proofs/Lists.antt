@@ -10,11 +10,11 @@ use lib.Dec.{leb}
 use Rattle.lists.specs.Keep.{keep}
 use Rattle.lists.specs.Sorted.{Under, Rises}
 use Rattle.lists.proofs.Below.{and-left, and-right}
-use Rattle.constraint.specs.Check.{rowsOf, countsInRange}
+use Rattle.constraint.specs.Check.{rowsJudged, countsInRange}
 use Rattle.constraint.specs.Row.{rowOf}
 use Rattle.constraint.specs.declared.check.Counts.{Counts}
 use Rattle.constraint.specs.declared.check.Takes.the-variants as takes
-use Rattle.constraint.specs.declared.check.Checked.the-variants as checked
+use Rattle.constraint.specs.Told.{good}
 use Rattle.constraint.proofs.KeptLaws.{kept}
 use Rattle.constraint.proofs.KindLaws.{takes-scheduling, takes-assignment}
 use Rattle.constraints.specs.Turn.{kindOf}
@@ -71,7 +71,7 @@ parts (x ∷ l) r s =
     (s x (List·Memᴰ·head refl))
 
 -- the search's list, then the roster's, are the whole reduction
-pub result-lists : (counts : Counts) (rows : List ℕ) → countsInRange counts takes.All ≡ true → rowsOf counts takes.All rows ≡ checked.Good
+pub result-lists : (counts : Counts) (rows : List ℕ) → countsInRange counts takes.Given ≡ true → rowsJudged counts takes.Given rows ≡ good
     → reducedRows counts rows ≡ searchList (reducedRows counts rows) ++ rosterList (reducedRows counts rows)
 unfolding searchList rosterList
 result-lists counts rows c g =

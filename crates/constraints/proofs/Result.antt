@@ -5,13 +5,18 @@ use mathlib.Core.Logic.{_⊎_, inl, inr, ⊎-elim}
 use Prim.Native.Nat.{ℕ}
 use Rattle.lists.specs.Sorted.{Rises}
 use Rattle.lists.proofs.Sorted.{unique-rises, unique-member, unique-has}
+use Rattle.constraint.specs.Told.{Told, done, refused, outcome}
 use Rattle.constraint.specs.declared.check.Counts.{Counts}
+use Rattle.constraint.proofs.ToldLaws as laws
+use Rattle.constraint.proofs.ToldLaws.{refusalOf, refusal-back}
 use Rattle.constraints.specs.Turn.{turnedRows}
 use Rattle.constraints.specs.Groups.{sameChoosers}
 use Rattle.constraints.specs.Pairs.{groupPairs, mandatoryPairs}
 use Rattle.constraints.specs.Copies.{copiesAll}
-use Rattle.constraints.specs.Reduction.{addedTo, expanded, reducedRows, reduceOf, left, Left, tells, Outcome}
+use Rattle.constraints.specs.Reduction.{addedTo, expanded, reducedRows, reducedTells, reduceOf}
+use Rattle.constraints.specs.declared.Reduction.{Reduction}
 use Rattle.constraints.specs.declared.Reduced.{Reduced}
+use Rattle.constraints.specs.declared.Reduced.the-variants as reduced
 
 module _ (counts : Counts) (rows : List ℕ) where
   -- 'All rows sort .., and equal rows become one'
@@ -47,9 +52,16 @@ module _ (counts : Counts) (rows : List ℕ) where
       unique-has (expanded counts rows)
       (Memᴰ·append-right (turnedRows rows) (Memᴰ·append-right (groupPairs groups) (Memᴰ·append-right (mandatoryPairs (turnedRows rows) (counts .choosers)) m)))
 
+-- the answer, read back from what it tells
+abbrev reducedOf : Told Reduction → Reduced
+reducedOf (done reduction) = reduced.Rows reduction
+reducedOf (refused number carried) = reduced.Refused (refusalOf number carried)
+
+reduced-back : (answer : Reduced) → reducedOf (reducedTells answer) ≡ answer
+reduced-back (reduced.Rows reduction) = refl
+reduced-back (reduced.Refused why) = ap reduced.Refused (refusal-back why)
+
 -- no two outcomes fit the promise of the call
-pub one-outcome : (counts : Counts) (rows pool : List ℕ) (r s : Reduced) (p q : List ℕ)
-    → left (tells r) p ≡ reduceOf counts rows pool → left (tells s) q ≡ reduceOf counts rows pool → (tells r ≡ tells s) × (p ≡ q)
-one-outcome counts rows pool r s p q e f =
-    let z = e ∙ sym f in
-    (ap (λ (l : Left). l .answer) z, ap (λ (l : Left). l .pool) z)
+pub one-outcome : (counts : Counts) (rows pool : List ℕ) {r s : Reduced} {p q : List ℕ}
+    → outcome (reducedTells r) p ≡ reduceOf counts rows pool → outcome (reducedTells s) q ≡ reduceOf counts rows pool → (r ≡ s) × (p ≡ q)
+one-outcome counts rows pool = laws.one-outcome reducedTells reducedOf reduced-back

@@ -13,17 +13,17 @@ use Rattle.lists.specs.Keep.{anyOf}
 use Rattle.lists.proofs.Below.{and-left, and-right}
 use Rattle.lists.proofs.Members.{member-each, member-part, member-if, member-unless}
 use Rattle.lists.proofs.Partition.{kept as kept-below, class-is}
-use Rattle.constraint.specs.Check.{columnHolds, takesPart, rowKeeps, rowsOf, countsInRange}
+use Rattle.constraint.specs.Told.{good}
+use Rattle.constraint.specs.Check.{columnHolds, takesPart, rowKeeps, rowsJudged, countsInRange}
 use Rattle.constraint.specs.Kind.{columnsOf, kinds}
 use Rattle.constraint.specs.Row.{rowOf, rowNumber, plainRow}
 use Rattle.constraint.specs.declared.check.Counts.{Counts}
 use Rattle.constraint.specs.declared.check.Takes.{Takes}
 use Rattle.constraint.specs.declared.check.Takes.the-variants as takes
-use Rattle.constraint.specs.declared.check.Checked.the-variants as checked
 use Rattle.constraint.specs.declared.row.Row.{Row}
 use Rattle.constraint.proofs.CountLaws.{within}
 use Rattle.constraint.proofs.KeptLaws.{Kept, kept, keeps, good-each}
-use Rattle.constraint.proofs.KindLaws.{takes-all, takes-scheduling, takes-assignment}
+use Rattle.constraint.proofs.KindLaws.{takes-given, takes-scheduling, takes-assignment}
 use Rattle.constraint.proofs.RowLaws.{Fits, row-of-number, row-fits}
 use Rattle.union_find.specs.State.{joinAll, rootOf}
 use Rattle.constraints.specs.Turn.{kindOf, leftOf, rightOf, turnedRow, turnedOne, turnedRows}
@@ -54,7 +54,7 @@ module _ (counts : Counts) where
     right-holds = subst (λ (n : ℕ). columnHolds counts (columnsOf n .2) (rightOf number) ≡ true) e (k .right)
 
   -- a kind that is turned
-  module _ (number : ℕ) (k : Kept counts takes.All (rowOf number)) where
+  module _ (number : ℕ) (k : Kept counts takes.Given (rowOf number)) where
     abbrev f : Fits (rowOf number)
     f = row-fits number
 
@@ -86,7 +86,7 @@ module _ (counts : Counts) where
     stays : (kindOf number ≡ 7 → ⊥) → (kindOf number ≡ 8 → ⊥) → (kindOf number ≡ 9 → ⊥) → (kindOf number ≡ 14 → ⊥) → (kindOf number ≡ 15 → ⊥) → Taken counts number
     unfolding Taken
     stays a b c d e =
-        let t : (leb 1 (kindOf number) && leb (kindOf number) 15) ≡ true = sym (takes-all (kindOf number)) ∙ k .kind in
+        let t : (leb 1 (kindOf number) && leb (kindOf number) 15) ≡ true = sym (takes-given (kindOf number)) ∙ k .kind in
         let low : 1 ≤ kindOf number = leb-true 1 (kindOf number) (and-left _ _ t) in
         let high : kindOf number ≤ 15 = leb-true (kindOf number) 15 (and-right (leb 1 (kindOf number)) _ t) in
         elim (decLt (kindOf number) 7) [
@@ -122,14 +122,14 @@ module _ (counts : Counts) where
             stays (eqb-false (kindOf number) 7 p) (eqb-false (kindOf number) 8 q) n (eqb-false (kindOf number) 14 r) (eqb-false (kindOf number) 15 s)
 
   -- rows that all keep the table, and counts in their ranges
-  module _ (rows : List ℕ) (c : countsInRange counts takes.All ≡ true) (good : rowsOf counts takes.All rows ≡ checked.Good) where
+  module _ (rows : List ℕ) (c : countsInRange counts takes.Given ≡ true) (taken : rowsJudged counts takes.Given rows ≡ good) where
     pub rows-taken : {number : ℕ} → List·Memᴰ number (turnedRows rows) → Taken counts number
     unfolding turnedOne
     rows-taken {number} m =
         let p = member-part turnedOne rows m in
-        let g = member-each (λ n. rowKeeps counts takes.All n ≡ true) rows 0 (good-each counts takes.All rows good) (p .1) in
+        let g = member-each (λ n. rowKeeps counts takes.Given n ≡ true) rows 0 (good-each counts takes.Given rows taken) (p .1) in
         let u = member-unless (eqb (kindOf (p .0)) 9) (turnedRow (p .0) ∷ []) (p .2) in
-        subst (Taken counts) (sym (List·Memᴰ·eq-of-singleton (u .1))) (turned-taken (p .0) (kept counts takes.All (p .0) g) (eqb-false (kindOf (p .0)) 9 (u .0)))
+        subst (Taken counts) (sym (List·Memᴰ·eq-of-singleton (u .1))) (turned-taken (p .0) (kept counts takes.Given (p .0) g) (eqb-false (kindOf (p .0)) 9 (u .0)))
 
     -- the columns of a taken row of kind 11 or 12
     module _ (number : ℕ) (t : Taken counts number) where
@@ -151,7 +151,7 @@ module _ (counts : Counts) where
     pair-taken : (left right : ℕ) → left < counts .choices → right < counts .choices → Taken counts (pairRow left right)
     unfolding Taken pairRow columnsOf kinds
     pair-taken left right l r =
-        let w = within counts takes.All c .choices in
+        let w = within counts takes.Given c .choices in
         inl (made-keeps takes.Scheduling 4 left right (omega arith) (omega arith) (record { kind = refl; left = lt-ltb left (counts .choices) l; right = lt-ltb right (counts .choices) r; extra = refl }))
 
     pairs-taken : (list : List ℕ) → ((x : ℕ) → List·Memᴰ x list → x < counts .choices) → {number : ℕ} → List·Memᴰ number (pairsOf list) → Taken counts number
@@ -197,8 +197,8 @@ module _ (counts : Counts) where
     copy-taken : (kind left member : ℕ) → (kind ≡ 11) ⊎ (kind ≡ 12) → left < counts .choosers → member < counts .choices → Taken counts (rowNumber (plainRow kind left member))
     unfolding Taken columnsOf kinds
     copy-taken kind left member e l h =
-        let w = within counts takes.All c .choices in
-        let v = within counts takes.All c .choosers in
+        let w = within counts takes.Given c .choices in
+        let v = within counts takes.Given c .choosers in
         let a = lt-ltb left (counts .choosers) l in
         let b = lt-ltb member (counts .choices) h in
         inr (⊎-elim

@@ -1,7 +1,6 @@
-pub mod Free
 pub mod Turn
 pub mod Groups
 pub mod Pairs
 pub mod Copies
 pub mod Reduction
-pub mod Expand
+pub mod steps

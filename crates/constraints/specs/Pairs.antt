@@ -1,10 +1,8 @@
 -- Module 2, the kind 4 rows: 'for each pair i < j of positions'.
-use mathlib.Core.Path.{_≡_}
-use mathlib.Core.Bool.{Bool, cond, _&&_}
+use mathlib.Core.Bool.{cond, _&&_}
 use mathlib.Core.List.{List, [], _∷_, _++_, map, flatMap}
-use Prim.Native.Nat.{ℕ, zero, suc, _<_}
+use Prim.Native.Nat.{ℕ, zero, suc}
 use lib.Dec.{eqb}
-use lib.ListN.{length, getD}
 use Rattle.constraint.specs.Row.{rowNumber, plainRow}
 use Rattle.constraints.specs.Turn.{kindOf, leftOf, rightOf}
 
@@ -33,11 +31,3 @@ mandatory rows chooser = flatMap (mandatoryOne chooser) rows
 unfoldable pub mandatoryPairs : List ℕ → ℕ → List ℕ
 mandatoryPairs rows zero = []
 mandatoryPairs rows (suc choosers) = mandatoryPairs rows choosers ++ pairsOf (mandatory rows choosers)
-
--- flags for choosers, after one row is marked: where one is still zero it was, and the row isn't the chooser's
-abbrev pub MarkedOne : ℕ → List ℕ → List ℕ → Type 0
-MarkedOne number before after = (chooser : ℕ) → chooser < length before → getD after chooser 0 ≡ 0 → (getD before chooser 0 ≡ 0) × (mandatoryOne chooser number ≡ [])
-
--- a chooser whose flag is zero has no kind 11 choices
-abbrev pub Marked : List ℕ → List ℕ → Type 0
-Marked rows named = (chooser : ℕ) → chooser < length named → getD named chooser 0 ≡ 0 → mandatory rows chooser ≡ []

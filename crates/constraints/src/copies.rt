@@ -1,6 +1,5 @@
 // 'For each row of kind 11 or 12, the same row for every other member of its choice's group.'
 use super::free;
-use super::groups;
 use constraint::kind::Kind;
 use constraint::number::Choice;
 use constraint::number::Chooser;
@@ -10,8 +9,8 @@ ghost use mathlib.Core.List.{flatMap};
 ghost use lib.Dec.{eqb};
 ghost use lib.ListN.{length};
 ghost use Rattle.lists.specs.Keep.{anyOf};
-ghost use Rattle.lists.specs.Cut.{cutAt, EndsFit};
-ghost use Rattle.constraints.specs.Free.{Wrote, Countable};
+ghost use Rattle.lists.specs.steps.Cut.{cutAt, EndsFit};
+ghost use Rattle.constraints.specs.steps.Free.{Wrote, Countable};
 ghost use Rattle.constraints.specs.Copies.{copyTo, copiesIn, isCopied, copiesOf, copiesAll};
 
 // Whether a group holds a choice.
@@ -67,7 +66,7 @@ fn copies_of(row: Row, members: &[u16], ends: &[u8], free: &mut [u64], from: usi
     let mut start = 0;
     let mut i = 0;
     while i < ends.len() {
-        let end = groups::wide(ends[i]);
+        let end = pools::wide(ends[i]);
         at = copies_in(row, &members[start..end], free, at);
         start = end;
         i += 1;

@@ -7,17 +7,10 @@ use super::turn;
 use constraint::check::Counts;
 ghost use mathlib.Core.Path.{_≡_};
 ghost use lib.ListN.{length};
-ghost use Rattle.lists.specs.Cut.{cutAt, EndsFit};
-ghost use Rattle.constraints.specs.Turn.{turnedRows};
+ghost use Rattle.lists.specs.steps.Cut.{cutAt, EndsFit};
+ghost use Rattle.constraints.specs.Groups.{sameChoosers};
 ghost use Rattle.constraints.specs.Reduction.{addedTo, expanded};
-ghost use Rattle.constraints.specs.Expand.{Small, Given, Filled};
-
-// Room for the given rows turned.
-fn no_rows() -> [u64; 128]
-    ensures { λ r. ⌜ 128 ≡ length r ⌝ }
-{
-    [0u64; 128]
-}
+ghost use Rattle.constraints.specs.steps.Expand.{Small, Given, Filled};
 
 // Room for the members of all groups, and for their ends.
 fn no_members() -> [u8; 64]
@@ -71,22 +64,25 @@ fn add_rows(choosers: usize, rows: &[u64], members: &[u16], ends: &[u8], pool: &
     total + copies::copies(rows, members, ends, &mut pool[total..])
 }
 
-// The rows turned, with their groups, and all that follows from them.
+// The turned rows, and all that follows from them and their groups.
+fn add_following(counts: Counts, rows: &[u64], pool: &mut [u64]) -> usize
+    requires { ⌜ Given counts (length (now rows)) (length (now pool)) ⌝ }
+    ensures { λ r. ⌜ Filled (now (pool .entry)) (addedTo (sameChoosers (counts .choices) (now (rows .entry))) (counts .choosers) (now (rows .entry))) r (now (pool .exit)) ⌝ }
+{
+    let mut members = no_members();
+    let mut ends = no_members();
+    let found = groups::groups(counts.choices, rows, &mut members, &mut ends);
+    let choices = widened(&members);
+    add_rows(counts.choosers, rows, &choices, &ends[..found], pool)
+}
+
+// The given rows turned, and all that follows from them.
 pub(crate) fn expand(counts: Counts, rows: &[u64], pool: &mut [u64]) -> usize
     requires { ⌜ Given counts (length (now rows)) (length (now pool)) ⌝ }
     ensures { λ r. ⌜ Filled (now (pool .entry)) (expanded counts (now (rows .entry))) r (now (pool .exit)) ⌝ }
 {
-    let mut turned = no_rows();
-    let count = turn::turn(rows, &mut turned);
-    let mut members = no_members();
-    let mut ends = no_members();
-    let found = groups::groups(counts.choices, &turned[..count], &mut members, &mut ends);
-    let choices = widened(&members);
-    add_rows(
-        counts.choosers,
-        &turned[..count],
-        &choices,
-        &ends[..found],
-        pool,
-    )
+    let turned = turn::turn(rows);
+    let numbers = turned.numbers;
+    let count = turned.count;
+    add_following(counts, &numbers[..count], pool)
 }

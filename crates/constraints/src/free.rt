@@ -2,7 +2,7 @@
 ghost use mathlib.Core.Path.{_≡_};
 ghost use Prim.Native.Nat.{_+_};
 ghost use lib.ListN.{length, set};
-ghost use Rattle.constraints.specs.Free.{Wrote};
+ghost use Rattle.constraints.specs.steps.Free.{Wrote};
 
 // Writes a row at a place of the free end; where it has no such place, the caller's count alone goes on.
 pub(crate) fn put(free: &mut [u64], at: usize, row: u64)

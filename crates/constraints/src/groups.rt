@@ -6,17 +6,10 @@ use union_find::UnionFind;
 ghost use mathlib.Core.Path.{_≡_};
 ghost use Prim.Native.Nat.{_≤_};
 ghost use lib.ListN.{length};
-ghost use Rattle.union_find.specs.Answers.{done};
+ghost use Rattle.constraint.specs.Told.{done, outcome};
 ghost use Rattle.union_find.specs.State.{joinFrom, joinAll};
-ghost use Rattle.union_find.specs.Groups.{groupsTell, groupsWritten};
+ghost use Rattle.union_find.specs.Groups.{groupsWritten};
 ghost use Rattle.constraints.specs.Groups.{joinOne, joins, sameChoosers};
-
-// A byte as a number.
-pub(crate) fn wide(byte: u8) -> usize
-    ensures { λ r. ⌜ r ≡ byte ⌝ }
-{
-    byte as usize
-}
 
 // The record after one row: joined if it is of kind 10.
 fn join_one(choices: usize, state: UnionFind, number: u64) -> UnionFind
@@ -46,7 +39,7 @@ fn join_rows(choices: usize, rows: &[u64]) -> UnionFind
 // The groups, one after another, and where each ends; the answer is how many they are.
 pub(crate) fn groups(choices: usize, rows: &[u64], members: &mut [u8], ends: &mut [u8]) -> usize
     requires { ⌜ (choices ≤ 64) × (length (now members) ≡ 64) × (length (now ends) ≡ 64) ⌝ }
-    ensures { λ r. ⌜ groupsTell (done r) (now (members .exit)) (now (ends .exit)) ≡ groupsWritten (sameChoosers choices (now (rows .entry))) ⌝ }
+    ensures { λ r. ⌜ outcome (done r) (now (members .exit), now (ends .exit)) ≡ groupsWritten (sameChoosers choices (now (rows .entry))) ⌝ }
 {
     let state = join_rows(choices, rows);
     let Grouped::Groups(count) = state.groups(choices, members, ends) else {

@@ -6,15 +6,16 @@ use constraint::check::Takes;
 use constraint::refusal::Refusal;
 ghost use mathlib.Core.Path.{_≡_};
 ghost use lib.ListN.{length};
-ghost use Rattle.constraints.specs.Reduction.{tells, left, reductionOf, reduceOf};
-ghost use Rattle.constraints.specs.Expand.{Given};
+ghost use Rattle.constraint.specs.Told.{outcome};
+ghost use Rattle.constraints.specs.Reduction.{reducedTells, reductionOf, reduceOf};
+ghost use Rattle.constraints.specs.steps.Expand.{Given};
 
-pub mod copies;
-pub mod expand;
-pub mod free;
-pub mod groups;
-pub mod pairs;
-pub mod turn;
+mod copies;
+mod expand;
+mod free;
+mod groups;
+mod pairs;
+mod turn;
 
 // The most rows that a reduction may have before equal ones are dropped, and the length of the pool lent for them.
 pub const MOST_ROWS: usize = 1024;
@@ -33,9 +34,9 @@ pub enum Reduced {
 
 // The reduced rows of a day into the pool: 1, then 2, then 5 with the first bad row, then 6.
 pub fn reduce(counts: Counts, rows: &[u64], pool: &mut [u64]) -> Reduced
-    ensures { λ r. ⌜ left (tells r) (now (pool .exit)) ≡ reduceOf counts (now (rows .entry)) (now (pool .entry)) ⌝ }
+    ensures { λ r. ⌜ outcome (reducedTells r) (now (pool .exit)) ≡ reduceOf counts (now (rows .entry)) (now (pool .entry)) ⌝ }
 {
-    if !check::counts_in_range(counts, Takes::All) {
+    if !check::counts_in_range(counts, Takes::Given) {
         return Reduced::Refused(Refusal::Count);
     }
     if rows.len() != counts.rows {
@@ -44,7 +45,7 @@ pub fn reduce(counts: Counts, rows: &[u64], pool: &mut [u64]) -> Reduced
     if pool.len() != MOST_ROWS {
         return Reduced::Refused(Refusal::Length);
     }
-    let checked = check::check_each_row(counts, Takes::All, rows);
+    let checked = check::check_each_row(counts, Takes::Given, rows);
     match checked {
         Checked::Good => reduce_rows(counts, rows, pool),
         Checked::Refused(refusal) => Reduced::Refused(refusal),
@@ -54,15 +55,15 @@ pub fn reduce(counts: Counts, rows: &[u64], pool: &mut [u64]) -> Reduced
 // The reduction of rows that keep the table: all rows written, then sorted with equal ones once.
 fn reduce_rows(counts: Counts, rows: &[u64], pool: &mut [u64]) -> Reduced
     requires { ⌜ Given counts (length (now rows)) (length (now pool)) ⌝ }
-    ensures { λ r. ⌜ left (tells r) (now (pool .exit)) ≡ reductionOf counts (now (rows .entry)) ⌝ }
+    ensures { λ r. ⌜ outcome (reducedTells r) (now (pool .exit)) ≡ reductionOf counts (now (rows .entry)) ⌝ }
 {
     let total = expand::expand(counts, rows, pool);
     if total > MOST_ROWS {
-        sorted_rows::clear(pool);
+        pools::clear_numbers(pool);
         return Reduced::Refused(Refusal::TooMany);
     }
     let count = sorted_rows::sort_unique(&mut pool[..total]);
-    sorted_rows::clear(&mut pool[total..]);
+    pools::clear_numbers(&mut pool[total..]);
     let clash = turn::clashes(rows);
     Reduced::Rows(Reduction { count, clash })
 }

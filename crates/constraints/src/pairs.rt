@@ -1,6 +1,5 @@
-// 'A kind 4 row for each pair i < j of positions in each same-choosers group, and in each chooser's list of kind 11 choices.'
+// 'a kind 4 row for each pair i < j of positions in each same-choosers group .., and in each chooser's list of kind 11 choices'
 use super::free;
-use super::groups;
 use constraint::kind::Kind;
 use constraint::number::Choice;
 use constraint::row::Row;
@@ -8,19 +7,18 @@ ghost use mathlib.Core.Path.{_≡_};
 ghost use mathlib.Core.List.{map};
 ghost use Prim.Native.Nat.{_+_, _≤_, _<_};
 ghost use lib.ListN.{length, getD};
-ghost use Rattle.lists.specs.Cut.{cutAt, EndsFit};
-ghost use Rattle.constraints.specs.Free.{Wrote, Countable};
-ghost use Rattle.constraints.specs.Pairs.{pairRow, pairsOf, groupPairs, mandatoryOne, mandatory, mandatoryPairs, MarkedOne, Marked};
+ghost use Rattle.lists.specs.steps.Cut.{cutAt, EndsFit};
+ghost use Rattle.constraint.specs.Row.{plainRow};
+ghost use Rattle.constraints.specs.steps.Free.{Wrote, Countable};
+ghost use Rattle.constraints.specs.Pairs.{pairRow, pairsOf, groupPairs, mandatoryOne, mandatory, mandatoryPairs};
+ghost use Rattle.constraints.specs.steps.Marks.{MarkedOne, Marked};
 
-// The kind 4 row of two choices, the earlier position left.
-fn pair_row(left: u16, right: u16) -> u64
-    ensures { λ r. ⌜ r ≡ pairRow left right ⌝ }
+// The kind 4 row of two choices: the one at the earlier position is left, also where it is the larger one.
+fn pair_row(earlier: u16, later: u16) -> Row
+    ensures { λ r. ⌜ r ≡ plainRow 4 earlier later ⌝ }
 {
-    Row::choice_choice(
-        Kind::CHOICES_ARE_NOT_IN_SAME_SLOT,
-        Choice(left),
-        Choice(right),
-    ).number()
+    let kind = Kind::CHOICES_ARE_NOT_IN_SAME_SLOT;
+    Row::choice_choice(kind, Choice(earlier), Choice(later))
 }
 
 // Writes the pairs of one choice with each of a list; the answer is the place after them.
@@ -31,7 +29,7 @@ fn pairs_with(left: u16, list: &[u16], free: &mut [u64], from: usize) -> usize
     let mut at = from;
     let mut j = 0;
     while j < list.len() {
-        free::put(free, at, pair_row(left, list[j]));
+        free::put(free, at, pair_row(left, list[j]).number());
         at += 1;
         j += 1;
     }
@@ -62,7 +60,7 @@ pub(crate) fn group_pairs(members: &[u16], ends: &[u8], free: &mut [u64]) -> usi
     let mut start = 0;
     let mut i = 0;
     while i < ends.len() {
-        let end = groups::wide(ends[i]);
+        let end = pools::wide(ends[i]);
         at = pairs_of(&members[start..end], free, at);
         start = end;
         i += 1;

@@ -6,8 +6,16 @@ use constraint::number::Chooser;
 use constraint::number::Slot;
 use constraint::row::Row;
 ghost use mathlib.Core.Path.{_≡_};
-ghost use Rattle.constraints.specs.Free.{Wrote, Countable};
+ghost use Prim.Native.Nat.{_≤_};
+ghost use lib.ListN.{length, replicate};
+ghost use Rattle.constraints.specs.steps.Free.{Wrote, Countable};
 ghost use Rattle.constraints.specs.Turn.{exchanged, turnedRow, turnedOne, turnedRows, clashesAt, clashOf};
+
+// The rows of a day turned, in room for as many as may be given, and how many they are.
+pub(crate) struct Turned {
+    pub numbers: [u64; 128],
+    pub count: usize,
+}
 
 // '7 and 8 become 1 and 2': the slot and the choice change ends.
 fn from_slot(kind: u16, row: Row) -> u64
@@ -55,7 +63,7 @@ fn turn_one(number: u64, free: &mut [u64], at: usize) -> usize
 }
 
 // Writes the given rows turned; the answer is how many they are.
-pub(crate) fn turn(rows: &[u64], free: &mut [u64]) -> usize
+fn write_turned(rows: &[u64], free: &mut [u64]) -> usize
     requires { ⌜ Countable 0 (turnedRows (now rows)) ⌝ }
     ensures { λ r. ⌜ Wrote (now (free .entry)) 0 (turnedRows (now (rows .entry))) r (now (free .exit)) ⌝ }
 {
@@ -66,6 +74,16 @@ pub(crate) fn turn(rows: &[u64], free: &mut [u64]) -> usize
         i += 1;
     }
     at
+}
+
+// The given rows turned, equal ones too: pairing counts them all, and only then equal rows become one.
+pub(crate) fn turn(rows: &[u64]) -> Turned
+    requires { ⌜ length (turnedRows (now rows)) ≤ 128 ⌝ }
+    ensures { λ r. ⌜ Wrote (replicate 128 0) 0 (turnedRows (now (rows .entry))) (r .count) (r .numbers) ⌝ }
+{
+    let mut numbers = [0u64; 128];
+    let count = write_turned(rows, &mut numbers);
+    Turned { numbers, count }
 }
 
 // A row of kind 9 whose two slots differ.

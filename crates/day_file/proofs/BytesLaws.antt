@@ -12,10 +12,10 @@ use Rattle.lists.proofs.Flat.{length-list, getD-list, window-split, window-all,
 use Rattle.constraint.specs.declared.row.Row.{Row}
 use Rattle.constraint.proofs.RowLaws.{Fits, row-of-number}
 use Rattle.day_file.specs.Day.{day}
-use Rattle.day_file.specs.File.{word, wordAt, turned, rowBytes, rowAt, placesOf, headBytes, lengthIn, versionIn, countsIn, choiceBytes, bytesOf, listsIn, dayIn}
+use Rattle.day_file.specs.File.{word, wordAt, signBitFlipped, rowBytes, rowAt, placesOf, headBytes, lengthIn, versionIn, countsIn, choiceBytes, bytesOf, listsIn, dayIn}
 use Rattle.day_file.specs.declared.counts.DayCounts.{DayCounts}
 use Rattle.day_file.proofs.ReadLaws.{Head}
-use Rattle.day_file.proofs.FormatLaws.{Bytes}
+use Rattle.day_file.proofs.FormatLaws.{Bytes, flipped-twice}
 
 module _ (file : List ℕ) (bytes : Bytes file) where
   -- one byte and two bytes, as they stand
@@ -42,23 +42,19 @@ module _ (file : List ℕ) (bytes : Bytes file) where
       rw (two-bytes a (omega arith), two-bytes (a + 2) (omega arith), one-byte (a + 4) h, e)
       (sym (window-split a 2 3 file ∙ ap (λ (l : List ℕ). window a 2 file ++ l) (window-split (a + 2) 2 1 file)))
 
-  turned-twice : (v : ℕ) → v < 65536 → turned (turned v) ≡ v
-  unfolding turned
-  turned-twice v h = omega arith
-
-  turned-under : (v : ℕ) → turned v < 65536
-  unfolding turned
-  turned-under v = omega arith
+  flipped-under : (v : ℕ) → signBitFlipped v < 65536
+  unfolding signBitFlipped
+  flipped-under v = omega arith
 
   row-bytes : (a : ℕ) → a + 5 < length file → rowBytes (rowAt file a) ≡ window a 6 file
   unfolding rowBytes rowAt
   row-bytes a h =
-      let row : Row = record { kind = getD file a 0; left = getD file (a + 1) 0; right = wordAt file (a + 2); extra = turned (wordAt file (a + 4)) } in
-      let fits : Fits row = record { left = omega (arith, bytes (a + 1)); right = word-under (a + 2); extra = turned-under (wordAt file (a + 4)) } in
+      let row : Row = record { kind = getD file a 0; left = getD file (a + 1) 0; right = wordAt file (a + 2); extra = signBitFlipped (wordAt file (a + 4)) } in
+      let fits : Fits row = record { left = omega (arith, bytes (a + 1)); right = word-under (a + 2); extra = flipped-under (wordAt file (a + 4)) } in
       let one : a + 2 ≡ a + 1 + 1 = omega arith in
       let four : a + 4 ≡ a + 2 + 2 = omega arith in
-      ap (λ (z : Row). z .kind ∷ z .left ∷ (word (z .right) ++ word (turned (z .extra)))) (row-of-number row fits)
-      ∙ rw (turned-twice (wordAt file (a + 4)) (word-under (a + 4)), two-bytes (a + 2) (omega arith), two-bytes (a + 4) (omega arith), four)
+      ap (λ (z : Row). z .kind ∷ z .left ∷ (word (z .right) ++ word (signBitFlipped (z .extra)))) (row-of-number row fits)
+      ∙ rw (flipped-twice (wordAt file (a + 4)) (word-under (a + 4)), two-bytes (a + 2) (omega arith), two-bytes (a + 4) (omega arith), four)
       (sym
       (window-split a 1 5 file
       ∙ rw (sym (one-byte a (omega arith)))

@@ -11,25 +11,26 @@ use Rattle.constraint.specs.Check.{countsInRange}
 use Rattle.constraint.specs.declared.check.Counts.{Counts}
 use Rattle.constraint.specs.declared.check.Takes.the-variants as takes
 use Rattle.constraint.proofs.CountLaws as limits
+use Rattle.day_lists.specs.Levels.{levelsInRange}
 use Rattle.day_file.specs.Day.{rowCounts, countsKeep, lengthsFull}
 use Rattle.day_file.specs.File.{placesOf}
 use Rattle.day_file.specs.declared.counts.DayCounts.{DayCounts}
 use Rattle.day_file.specs.declared.counts.Places.{Places}
 
-module _ (counts : DayCounts) {b : Bool} {asked : Counts} (e : asked ≡ rowCounts counts) (t : b ≡ countsInRange asked takes.All) where
-  rows-test : countsInRange (rowCounts counts) takes.All ≡ b
-  rows-test = sym (ap (λ (c : Counts). countsInRange c takes.All) e) ∙ sym t
+module _ (counts : DayCounts) {b : Bool} {asked : Counts} (e : asked ≡ rowCounts counts) (t : b ≡ countsInRange asked takes.Given) where
+  rows-test : countsInRange (rowCounts counts) takes.Given ≡ b
+  rows-test = sym (ap (λ (c : Counts). countsInRange c takes.Given) e) ∙ sym t
 
   pub keep-rows : b ≡ false → false ≡ countsKeep counts
   unfolding countsKeep
   keep-rows h = rw (rows-test ∙ h)
 
   pub keep-none : b ≡ true → counts .levels < 1 → false ≡ countsKeep counts
-  unfolding countsKeep
+  unfolding countsKeep levelsInRange
   keep-none h l = rw (rows-test ∙ h, lt-leb _ _ l)
 
   pub keep-most : b ≡ true → 1 ≤ counts .levels → leb (counts .levels) 64 ≡ countsKeep counts
-  unfolding countsKeep
+  unfolding countsKeep levelsInRange
   keep-most h l = rw (rows-test ∙ h, le-leb _ _ l)
 
 -- counts in their ranges, and so at most 12,800 preferences
@@ -43,19 +44,19 @@ pub record InRange (counts : DayCounts) : Type 0 where
   pub cells : counts .choosers * counts .choices ≤ 12800
 
 pub in-range : (counts : DayCounts) → countsKeep counts ≡ true → InRange counts
-unfolding countsKeep
+unfolding countsKeep levelsInRange
 in-range counts h =
-    let rows = countsInRange (rowCounts counts) takes.All in
-    let some = rows && leb 1 (counts .levels) in
-    let hs = and-left some _ h in
-    let r = limits.within (rowCounts counts) takes.All (and-left rows _ hs) in
+    let rows = countsInRange (rowCounts counts) takes.Given in
+    let some = leb 1 (counts .levels) in
+    let levels = and-right rows _ h in
+    let r = limits.within (rowCounts counts) takes.Given (and-left rows _ h) in
     record {
       choices = r .choices;
       slots = r .slots;
       choosers = r .choosers;
       rows = r .rows;
-      some = leb-true _ _ (and-right rows _ hs);
-      levels = leb-true _ _ (and-right some _ h);
+      some = leb-true _ _ (and-left some _ levels);
+      levels = leb-true _ _ (and-right some _ levels);
       cells = le-trans (mul-le-mul-left (counts .choosers) (r .choices)) (mul-le-mul-right 64 (r .choosers));
     }
 

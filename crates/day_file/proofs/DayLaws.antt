@@ -7,26 +7,27 @@ use native.Mathlib.Omega.{arith}
 use borrow.Author.Tests.{le-leb, eq-eqb}
 use lib.Dec.{leb}
 use lib.ListN.{length}
+use Rattle.lists.specs.All.{allAtMost}
 use Rattle.lists.specs.Flat.{listBelow}
 use Rattle.lists.proofs.Below.{and-left, and-right, each-all}
 use Rattle.lists.proofs.Flat.{length-list}
-use Rattle.constraint.specs.declared.check.Checked.{Checked}
-use Rattle.constraint.specs.declared.check.Checked.the-variants.{Good, Refused}
-use Rattle.day_file.specs.Day.{Parts, Day, countsKeep, lengthsKeep, levelsRise, lastLevel, allAtMost, rowsJudged, isGood, isDay, poolsFull, padded}
+use Rattle.constraint.specs.Told.{done, refused, Verdict, good, outcome}
+use Rattle.constraint.proofs.ToldLaws.{unless-done, then-done}
+use Rattle.day_lists.specs.Levels.{levelsRise, lastLevel}
+use Rattle.day_file.specs.Day.{Parts, Day, countsKeep, lengthsKeep, dayRowsJudged, isGood, isDay, poolsFull, padded}
 use Rattle.day_file.specs.File.{wordAt, placesOf, countsIn, listsIn, dayIn, bytesOf}
-use Rattle.day_file.specs.Calls.{andThen, headJudged, bodyJudged, fileJudged, reading, readOf}
+use Rattle.day_file.specs.Calls.{headJudged, bodyJudged, fileJudged, readOf}
 use Rattle.day_file.specs.declared.counts.DayCounts.{DayCounts}
-use Rattle.day_file.specs.declared.read.Read.the-variants as read
 use Rattle.day_file.proofs.CountLaws.{InRange, in-range}
 use Rattle.day_file.proofs.JudgeLaws.{at-most-list, last-list}
-use Rattle.day_file.proofs.ReadLaws.{unless-test, unless-rest, head-good, Head, good-head, file-body, read-good}
+use Rattle.day_file.proofs.ReadLaws.{head-good, Head, good-head, file-body, read-good}
 use Rattle.day_file.proofs.FileLaws.{Lengths, lengths, length-bytes}
 use Rattle.day_file.proofs.FormatLaws.{Bytes, counts-back, version-back, length-back, lists-back, day-back}
 use Rattle.day_file.proofs.BytesLaws.{word-under, bytes-back}
 
-pub good-is : (c : Checked) → isGood c ≡ true → c ≡ Good
-good-is Good h = refl
-good-is (Refused why) h = absurd (false≢true h)
+pub good-is : (verdict : Verdict) → isGood verdict ≡ true → verdict ≡ good
+good-is (done value) h = refl
+good-is (refused number carried) h = absurd (false≢true h)
 
 -- what makes a day, test by test
 pub record IsDay (d : Day) : Type 0 where
@@ -38,7 +39,7 @@ pub record IsDay (d : Day) : Type 0 where
   pub levels-keep : levelsRise (d .lists .levels) ≡ true
   pub last-keeps : leb (lastLevel (d .lists .levels)) 65535 ≡ true
   pub preferences-keep : allAtMost (lastLevel (d .lists .levels)) (d .lists .preferences) ≡ true
-  pub rows-keep : rowsJudged d ≡ Good
+  pub rows-keep : dayRowsJudged d ≡ good
 
 pub day-says : (d : Day) → isDay d ≡ true → IsDay d
 unfolding isDay
@@ -67,7 +68,7 @@ day-says d h =
       levels-keep = and-right f _ hg;
       last-keeps = and-right g _ hi;
       preferences-keep = and-right i _ hj;
-      rows-keep = good-is (rowsJudged d) (and-right j _ h);
+      rows-keep = good-is (dayRowsJudged d) (and-right j _ h);
     }
 
 pub says-day : (d : Day) → IsDay d → isDay d ≡ true
@@ -90,22 +91,22 @@ module _ (d : Day) (k : IsDay d) where
   same-counts : countsIn (bytesOf d) ≡ d .counts
   same-counts = counts-back (d .counts) (d .lists)
 
-  head-of-day : Good ≡ headJudged (bytesOf d)
+  head-of-day : good ≡ headJudged (bytesOf d)
   head-of-day =
       let least : 11 ≤ length (bytesOf d) = rw size (omega arith) in
       head-good (bytesOf d) least refl (length-back (d .counts) (d .lists) ∙ ap (λ (n : ℕ). n - 4) (sym size)) (version-back (d .counts) (d .lists)) refl refl
       (ap countsKeep same-counts ∙ k .counts-keep) refl (ap (λ (c : DayCounts). placesOf 5 c .end) same-counts ∙ sym size)
 
-  body-of-day : bodyJudged d ≡ Good
+  body-of-day : bodyJudged d ≡ good
   unfolding bodyJudged
   body-of-day = rw (k .optional-keep, k .levels-keep, k .preferences-keep, k .rows-keep)
 
-  pub file-of-day : fileJudged (bytesOf d) ≡ Good
+  pub file-of-day : fileJudged (bytesOf d) ≡ good
   file-of-day =
       sym (file-body (bytesOf d) head-of-day refl refl refl) ∙ ap bodyJudged (day-back d long) ∙ body-of-day
 
 -- what is written reads back as the same day
-pub reads-back : (d : Day) → isDay d ≡ true → (pools : Parts) → poolsFull pools ≡ true → readOf (bytesOf d) pools ≡ reading (read.Day (d .counts)) (padded (d .lists))
+pub reads-back : (d : Day) → isDay d ≡ true → (pools : Parts) → poolsFull pools ≡ true → readOf (bytesOf d) pools ≡ outcome (done (d .counts)) (padded (d .lists))
 reads-back d h pools f =
     let k = day-says d h in
     let l = lengths (d .counts) (d .lists) (k .lengths-keep) in
@@ -121,16 +122,12 @@ one-file d e hd he same =
     ∙ day-back e (lengths (e .counts) (e .lists) (day-says e he .lengths-keep))
 
 -- a good file has a good body
-pub good-body : (file : List ℕ) → fileJudged file ≡ Good → bodyJudged (dayIn file) ≡ Good
+pub good-body : (file : List ℕ) → fileJudged file ≡ good → bodyJudged (dayIn file) ≡ good
 unfolding fileJudged
-good-body file g = go (headJudged file) g
-  where
-    go : (h : Checked) → andThen h (bodyJudged (dayIn file)) ≡ Good → bodyJudged (dayIn file) ≡ Good
-    go Good e = e
-    go (Refused why) e = absurd (false≢true (ap isGood e))
+good-body file g = then-done (headJudged file) (bodyJudged (dayIn file)) g .1
 
 -- what reads is a day
-module _ (file : List ℕ) (bytes : Bytes file) (g : fileJudged file ≡ Good) where
+module _ (file : List ℕ) (bytes : Bytes file) (g : fileJudged file ≡ good) where
   head : Head file
   head = good-head file g
 
@@ -169,22 +166,19 @@ module _ (file : List ℕ) (bytes : Bytes file) (g : fileJudged file ≡ Good) w
   unfolding bodyJudged
   day-of-file =
       let d = dayIn file in
-      let b = good-body file g in
-      let o = allAtMost 1 (d .lists .optional) in
-      let l = levelsRise (d .lists .levels) in
-      let p = allAtMost (lastLevel (d .lists .levels)) (d .lists .preferences) in
-      let bl = unless-rest o _ _ b in
-      let bp = unless-rest l _ _ bl in
+      let optional = unless-done (allAtMost 1 (d .lists .optional)) _ _ (good-body file g) in
+      let levels = unless-done (levelsRise (d .lists .levels)) _ _ (optional .1) in
+      let preferences = unless-done (allAtMost (lastLevel (d .lists .levels)) (d .lists .preferences)) _ _ (levels .1) in
       record {
         counts-keep = head .counts;
         lengths-keep = lengths-read;
         mins-keep = mins-read;
         maxs-keep = maxs-read;
-        optional-keep = unless-test o _ _ b;
-        levels-keep = unless-test l _ _ bl;
+        optional-keep = optional .0;
+        levels-keep = levels .0;
         last-keeps = last-read;
-        preferences-keep = unless-test p _ _ bp;
-        rows-keep = unless-rest p _ _ bp;
+        preferences-keep = preferences .0;
+        rows-keep = preferences .1;
       }
 
   -- and writes back as the same bytes

@@ -11,7 +11,7 @@ use Rattle.lists.specs.Flat.{joinBelow}
 use Rattle.lists.proofs.Below.{and-left, and-right}
 use Rattle.lists.proofs.Flat.{length-join}
 use Rattle.day_file.specs.Day.{Parts, day, lengthsKeep}
-use Rattle.day_file.specs.File.{word, rowBytes, headBytes, choiceBytes, bytesOf, placesOf}
+use Rattle.day_file.specs.File.{word, rowBytes, headBytes, choiceBytes, bytesOf, placesOf, longestFile}
 use Rattle.day_file.specs.declared.counts.DayCounts.{DayCounts}
 use Rattle.day_file.proofs.CountLaws.{InRange}
 
@@ -80,6 +80,9 @@ length-bytes counts lists l =
     (length-append, length-head 1 counts, length-choices, length-words, length-rows, l .levels-long, l .preferences-long, l .rows-long)
     (omega arith)
 
--- 26,827 bytes are room for every day
-pub end-most : {counts : DayCounts} → InRange counts → placesOf 5 counts .end ≤ 26827
+-- the longest file is room for every day, and no more than the day with every count at its limit takes
+pub end-most : {counts : DayCounts} → InRange counts → placesOf 5 counts .end ≤ longestFile
 end-most r = omega arith
+
+pub end-longest : placesOf 5 (record { choices = 64; slots = 24; choosers = 200; levels = 64; rows = 128 }) .end ≡ longestFile
+end-longest = refl

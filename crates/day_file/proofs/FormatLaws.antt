@@ -12,7 +12,7 @@ use Rattle.lists.proofs.Flat.{list-ext, list-back, window-skip, window-join}
 use Rattle.constraint.specs.Row.{rowOf, rowNumber}
 use Rattle.constraint.proofs.RowLaws.{number-of-row, row-fits}
 use Rattle.day_file.specs.Day.{Parts, parts, Day, day}
-use Rattle.day_file.specs.File.{word, wordAt, turned, rowBytes, rowAt, placesOf, headBytes, lengthIn, versionIn, countsIn, choiceBytes, bytesOf, listsIn, dayIn}
+use Rattle.day_file.specs.File.{word, wordAt, signBitFlipped, rowBytes, rowAt, placesOf, headBytes, lengthIn, versionIn, countsIn, choiceBytes, bytesOf, listsIn, dayIn}
 use Rattle.day_file.specs.declared.counts.DayCounts.{DayCounts}
 use Rattle.day_file.proofs.FileLaws.{Lengths, length-word, length-row, length-choice, length-head, length-choices, length-words}
 
@@ -37,9 +37,9 @@ row-in l a =
     rw (byte-in l a 6 0 (omega arith), byte-in l a 6 1 (omega arith), word-in l a 6 2 (omega arith), word-in l a 6 4 (omega arith), add-zero)
 
 -- what was put is read
-turned-back : (v : ℕ) → v < 65536 → turned (turned v) ≡ v
-unfolding turned
-turned-back v h = omega arith
+pub flipped-twice : (v : ℕ) → v < 65536 → signBitFlipped (signBitFlipped v) ≡ v
+unfolding signBitFlipped
+flipped-twice v h = omega arith
 
 word-read : (v : ℕ) (rest : List ℕ) → wordAt (word v ++ rest) 0 ≡ v
 unfolding wordAt word
@@ -58,8 +58,8 @@ unfolding choiceBytes word
 optional-read mins maxs optional i = refl
 
 columns-read : (kind left right extra : ℕ) → extra < 65536
-    → rowAt (kind ∷ left ∷ (word right ++ word (turned extra))) 0 ≡ rowNumber (record { kind = kind; left = left; right = right; extra = extra })
-unfolding rowAt wordAt word turned rowNumber
+    → rowAt (kind ∷ left ∷ (word right ++ word (signBitFlipped extra))) 0 ≡ rowNumber (record { kind = kind; left = left; right = right; extra = extra })
+unfolding rowAt wordAt word signBitFlipped rowNumber
 columns-read kind left right extra h = omega arith
 
 row-read-back : (number : ℕ) → rowAt (rowBytes number) 0 ≡ number

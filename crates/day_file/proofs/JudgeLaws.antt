@@ -6,22 +6,21 @@ use Prim.Native.Nat.{ℕ, _+_, _*_, _-_, _≤_, _<_}
 use native.Mathlib.Omega.{arith}
 use borrow.Author.Tests.{lt-ltb, le-ltb, le-leb, lt-leb}
 use lib.Dec.{ltb, leb}
-use lib.ListN.{getD, take}
-use lib.Seq.{take-at}
+use lib.ListN.{getD}
+use Rattle.lists.specs.All.{allAtMost}
 use Rattle.lists.specs.Below.{allBelow}
 use Rattle.lists.specs.Flat.{listBelow}
-use Rattle.lists.specs.Pool.{pad}
 use Rattle.lists.proofs.Below.{all-more, one-fails}
 use Rattle.lists.proofs.Through.{all-ext}
 use Rattle.lists.proofs.Flat.{length-list, getD-list}
 use Rattle.constraint.specs.Row.{rowNumber}
-use Rattle.day_file.specs.Day.{levelsRise, lastLevel, allAtMost}
-use Rattle.day_file.specs.File.{wordAt, turned, rowAt, countsIn}
+use Rattle.day_lists.specs.Levels.{levelsRise, lastLevel}
+use Rattle.day_file.specs.File.{wordAt, signBitFlipped, rowAt, countsIn}
 use Rattle.day_file.specs.declared.counts.DayCounts.{DayCounts}
 
 -- the columns that were read are the row's
 pub row-read : (file : List ℕ) (at : ℕ) {kind left right extra word number : ℕ}
-    → kind ≡ getD file at 0 → left ≡ getD file (at + 1) 0 → right ≡ wordAt file (at + 2) → word ≡ wordAt file (at + 4) → extra ≡ turned word
+    → kind ≡ getD file at 0 → left ≡ getD file (at + 1) 0 → right ≡ wordAt file (at + 2) → word ≡ wordAt file (at + 4) → extra ≡ signBitFlipped word
     → number ≡ rowNumber (record { kind = kind; left = left; right = right; extra = extra }) → number ≡ rowAt file at
 unfolding rowAt rowNumber
 row-read file at k l r w x n = n ∙ rw (k, l, r, x, w)
@@ -31,11 +30,6 @@ pub counts-read : (file : List ℕ) {rows : ℕ} → rows ≡ wordAt file 9
     → _≡_ {A = DayCounts} (record { choices = getD file 5 0; slots = getD file 6 0; choosers = getD file 7 0; levels = getD file 8 0; rows = rows }) (countsIn file)
 counts-read file e =
     ap (λ (rows : ℕ). record { choices = getD file 5 0; slots = getD file 6 0; choosers = getD file 7 0; levels = getD file 8 0; rows = rows }) e
-
--- the rows that were put into a longer list
-pub rows-read : (n m : ℕ) (f : ℕ → ℕ) {rows : List ℕ} → rows ≡ pad m (listBelow n f) → take n rows ≡ listBelow n f
-unfolding pad
-rows-read n m f e = rw e (take-at (listBelow n f) _ n (length-list n f))
 
 -- levels that rise, as words of the file
 abbrev pub rising : List ℕ → ℕ → ℕ → Bool

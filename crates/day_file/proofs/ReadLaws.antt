@@ -1,47 +1,37 @@
 -- Reading a file: a law for each way through its functions.
-use mathlib.Core.Path.{_≡_, refl, sym, _∙_, ap}
-use mathlib.Core.Bool.{Bool, true, false, false≢true}
+use mathlib.Core.Path.{_≡_, sym, _∙_, ap}
+use mathlib.Core.Bool.{Bool, true, false}
 use mathlib.Core.List.{List}
 use Prim.Native.Nat.{ℕ, _+_, _*_, _-_, _≤_, _<_}
 use borrow.Author.Tests.{le-leb, lt-leb, eq-eqb, ne-eqb, leb-true, eqb-true}
 use lib.Dec.{leb, eqb}
 use lib.ListN.{length, getD}
+use Rattle.lists.specs.All.{allAtMost}
 use Rattle.lists.specs.Below.{allBelow}
 use Rattle.lists.specs.Flat.{listBelow}
 use Rattle.lists.specs.Pool.{pad}
-use Rattle.constraint.specs.Check.{rowsOf}
+use Rattle.constraint.specs.Check.{rowsJudged}
 use Rattle.constraint.specs.declared.check.Counts.{Counts}
 use Rattle.constraint.specs.declared.check.Takes.the-variants as takes
-use Rattle.constraint.specs.declared.check.Checked.{Checked}
-use Rattle.constraint.specs.declared.check.Checked.the-variants.{Good, Refused}
-use Rattle.constraint.specs.declared.refusal.Refusal.{Refusal}
-use Rattle.constraint.specs.declared.refusal.Refusal.the-variants as refusal
-use Rattle.day_file.specs.Day.{Parts, parts, Day, day, rowCounts, countsKeep, levelsRise, lastLevel, allAtMost, rowsJudged, isGood, poolsFull, padded}
+use Rattle.constraint.specs.Told.{done, refused, Verdict, good, refuse, outcome}
+use Rattle.constraint.proofs.ToldLaws.{unless-done, then-done}
+use Rattle.day_lists.specs.Levels.{levelsRise, lastLevel}
+use Rattle.day_file.specs.Day.{Parts, parts, day, rowCounts, countsKeep, dayRowsJudged, poolsFull, padded}
 use Rattle.day_file.specs.File.{wordAt, rowAt, placesOf, lengthIn, versionIn, countsIn, listsIn, dayIn}
-use Rattle.day_file.specs.Calls.{unless, andThen, headJudged, bodyJudged, fileJudged, reading, readOf}
+use Rattle.day_file.specs.Calls.{headJudged, bodyJudged, fileJudged, readOf}
 use Rattle.day_file.specs.declared.counts.DayCounts.{DayCounts}
 use Rattle.day_file.specs.declared.counts.Places.{Places}
-use Rattle.day_file.specs.declared.read.Read.the-variants as read
 use Rattle.day_file.proofs.CountLaws.{Within, last-place, Full, full}
 use Rattle.day_file.proofs.JudgeLaws.{rising, under, at-most-list, rise-list, last-list}
 
--- what good says of the test and of the rest
-pub unless-test : (test : Bool) (why : Refusal) (rest : Checked) → unless test why rest ≡ Good → test ≡ true
-unless-test true why rest h = refl
-unless-test false why rest h = absurd (false≢true (ap isGood h))
-
-pub unless-rest : (test : Bool) (why : Refusal) (rest : Checked) → unless test why rest ≡ Good → rest ≡ Good
-unless-rest true why rest h = h
-unless-rest false why rest h = absurd (false≢true (ap isGood h))
-
 -- the head: 11, 12, 1, 11
 module _ (file : List ℕ) where
-  pub head-short : length file < 11 → Refused refusal.FileLength ≡ headJudged file
+  pub head-short : length file < 11 → refuse 11 ≡ headJudged file
   unfolding headJudged
   head-short h = rw (lt-leb _ _ h)
 
   module _ (long : 11 ≤ length file) {said : ℕ} (s : said ≡ lengthIn file) where
-    pub head-length : (said ≡ length file - 4 → ⊥) → Refused refusal.FileLength ≡ headJudged file
+    pub head-length : (said ≡ length file - 4 → ⊥) → refuse 11 ≡ headJudged file
     unfolding headJudged
     head-length n = rw (le-leb _ _ long, ne-eqb (lengthIn file) (length file - 4) (λ e. n (s ∙ e)))
 
@@ -49,7 +39,7 @@ module _ (file : List ℕ) where
       lengths : lengthIn file ≡ length file - 4
       lengths = sym s ∙ l
 
-      pub head-version : (versionIn file ≡ 1 → ⊥) → Refused refusal.Version ≡ headJudged file
+      pub head-version : (versionIn file ≡ 1 → ⊥) → refuse 12 ≡ headJudged file
       unfolding headJudged
       head-version n = rw (le-leb _ _ long, eq-eqb _ _ lengths, ne-eqb _ _ n)
 
@@ -57,7 +47,7 @@ module _ (file : List ℕ) where
         keeps : countsKeep (countsIn file) ≡ b
         keeps = sym (ap countsKeep c) ∙ sym t
 
-        pub head-counts : b ≡ false → Refused refusal.Count ≡ headJudged file
+        pub head-counts : b ≡ false → refuse 1 ≡ headJudged file
         unfolding headJudged
         head-counts h = rw (le-leb _ _ long, eq-eqb _ _ lengths, eq-eqb _ _ v, keeps ∙ h)
 
@@ -65,11 +55,11 @@ module _ (file : List ℕ) where
           ends : places .end ≡ placesOf 5 (countsIn file) .end
           ends = ap (λ (q : Places). q .end) p ∙ ap (λ (d : DayCounts). placesOf 5 d .end) c
 
-          pub head-body : (places .end ≡ length file → ⊥) → Refused refusal.FileLength ≡ headJudged file
+          pub head-body : (places .end ≡ length file → ⊥) → refuse 11 ≡ headJudged file
           unfolding headJudged
           head-body n = rw (le-leb _ _ long, eq-eqb _ _ lengths, eq-eqb _ _ v, keeps ∙ h, ne-eqb (placesOf 5 (countsIn file) .end) (length file) (λ e. n (ends ∙ e)))
 
-          pub head-good : places .end ≡ length file → Good ≡ headJudged file
+          pub head-good : places .end ≡ length file → good ≡ headJudged file
           unfolding headJudged
           head-good e = rw (le-leb _ _ long, eq-eqb _ _ lengths, eq-eqb _ _ v, keeps ∙ h, eq-eqb _ _ (sym ends ∙ e))
 
@@ -81,23 +71,20 @@ pub record Head (file : List ℕ) : Type 0 where
   pub counts : countsKeep (countsIn file) ≡ true
   pub end : placesOf 5 (countsIn file) .end ≡ length file
 
-pub head-says : (file : List ℕ) → headJudged file ≡ Good → Head file
+pub head-says : (file : List ℕ) → headJudged file ≡ good → Head file
 unfolding headJudged
 head-says file g =
-    let long = leb 11 (length file) in
-    let said = eqb (lengthIn file) (length file - 4) in
-    let version = eqb (versionIn file) 1 in
-    let counts = countsKeep (countsIn file) in
-    let g1 = unless-rest long _ _ g in
-    let g2 = unless-rest said _ _ g1 in
-    let g3 = unless-rest version _ _ g2 in
-    let g4 = unless-rest counts _ _ g3 in
+    let long = unless-done (leb 11 (length file)) _ _ g in
+    let said = unless-done (eqb (lengthIn file) (length file - 4)) _ _ (long .1) in
+    let version = unless-done (eqb (versionIn file) 1) _ _ (said .1) in
+    let counts = unless-done (countsKeep (countsIn file)) _ _ (version .1) in
+    let end = unless-done (eqb (placesOf 5 (countsIn file) .end) (length file)) _ _ (counts .1) in
     record {
-      long = leb-true _ _ (unless-test long _ _ g);
-      length-in = eqb-true _ _ (unless-test said _ _ g1);
-      version = eqb-true _ _ (unless-test version _ _ g2);
-      counts = unless-test counts _ _ g3;
-      end = eqb-true _ _ (unless-test (eqb (placesOf 5 (countsIn file) .end) (length file)) _ _ g4);
+      long = leb-true _ _ (long .0);
+      length-in = eqb-true _ _ (said .0);
+      version = eqb-true _ _ (version .0);
+      counts = counts .0;
+      end = eqb-true _ _ (end .0);
     }
 
 -- the body: 13, 3, 4, 5, each test on the file's bytes
@@ -107,7 +94,7 @@ module _ (file : List ℕ) (counts : DayCounts) {places : Places} (p : places �
     unfolding listsIn
     optional-is = at-most-list (counts .choices) (λ i. getD file (15 + 5 * i) 0) 1 ∙ sym ot
 
-    pub body-optional : o ≡ false → Refused refusal.Optional ≡ bodyJudged (day counts (listsIn file counts))
+    pub body-optional : o ≡ false → refuse 13 ≡ bodyJudged (day counts (listsIn file counts))
     unfolding bodyJudged
     body-optional h = rw (optional-is ∙ h)
 
@@ -119,7 +106,7 @@ module _ (file : List ℕ) (counts : DayCounts) {places : Places} (p : places �
           ∙ sym (ap (λ (q : Places). allBelow (counts .levels - 1) (rising file (q .levels))) p)
           ∙ sym lt
 
-      pub body-levels : l ≡ false → Refused refusal.Levels ≡ bodyJudged (day counts (listsIn file counts))
+      pub body-levels : l ≡ false → refuse 3 ≡ bodyJudged (day counts (listsIn file counts))
       unfolding bodyJudged
       body-levels h = rw (optional-is ∙ oh, levels-is ∙ h)
 
@@ -141,41 +128,37 @@ module _ (file : List ℕ) (counts : DayCounts) {places : Places} (p : places �
             ∙ sym (ap (λ (q : Places). allBelow (counts .choosers * counts .choices) (under file (q .preferences) last)) p)
             ∙ sym ft
 
-        pub body-preference : f ≡ false → Refused refusal.Preference ≡ bodyJudged (day counts (listsIn file counts))
+        pub body-preference : f ≡ false → refuse 4 ≡ bodyJudged (day counts (listsIn file counts))
         unfolding bodyJudged
         body-preference h = rw (optional-is ∙ oh, levels-is ∙ lh, preferences-is ∙ h)
 
-        pub body-rows : f ≡ true → {asked : Counts} → asked ≡ rowCounts counts → {answer : Checked}
-            → answer ≡ rowsOf asked takes.All (listBelow (counts .rows) (λ i. rowAt file (places .rows + 6 * i)))
+        pub body-rows : f ≡ true → {asked : Counts} → asked ≡ rowCounts counts → {answer : Verdict}
+            → answer ≡ rowsJudged asked takes.Given (listBelow (counts .rows) (λ i. rowAt file (places .rows + 6 * i)))
             → answer ≡ bodyJudged (day counts (listsIn file counts))
-        unfolding bodyJudged rowsJudged listsIn
+        unfolding bodyJudged dayRowsJudged listsIn
         body-rows h {asked} a r =
             rw (optional-is ∙ oh, levels-is ∙ lh, preferences-is ∙ h)
             (r
-            ∙ ap (λ (c : Counts). rowsOf c takes.All (listBelow (counts .rows) (λ i. rowAt file (places .rows + 6 * i)))) a
-            ∙ ap (λ (q : Places). rowsOf (rowCounts counts) takes.All (listBelow (counts .rows) (λ i. rowAt file (q .rows + 6 * i)))) p)
+            ∙ ap (λ (c : Counts). rowsJudged c takes.Given (listBelow (counts .rows) (λ i. rowAt file (places .rows + 6 * i)))) a
+            ∙ ap (λ (q : Places). rowsJudged (rowCounts counts) takes.Given (listBelow (counts .rows) (λ i. rowAt file (q .rows + 6 * i)))) p)
 
 -- head, then body
-module _ (file : List ℕ) {head : Checked} (t : head ≡ headJudged file) where
-  pub file-refused : {why : Refusal} → head ≡ Refused why → Refused why ≡ fileJudged file
+module _ (file : List ℕ) {head : Verdict} (t : head ≡ headJudged file) where
+  pub file-refused : {number : ℕ} {carried : List ℕ} → head ≡ refused number carried → refused number carried ≡ fileJudged file
   unfolding fileJudged
   file-refused e = rw (sym t ∙ e)
 
-  pub file-head : head ≡ Good → Head file
+  pub file-head : head ≡ good → Head file
   file-head e = head-says file (sym t ∙ e)
 
-  pub file-body : head ≡ Good → {counts : DayCounts} → counts ≡ countsIn file → {body : Checked} → body ≡ bodyJudged (day counts (listsIn file counts)) → body ≡ fileJudged file
+  pub file-body : head ≡ good → {counts : DayCounts} → counts ≡ countsIn file → {body : Verdict} → body ≡ bodyJudged (day counts (listsIn file counts)) → body ≡ fileJudged file
   unfolding fileJudged
   file-body e c b = rw (sym t ∙ e) (b ∙ ap (λ (d : DayCounts). bodyJudged (day d (listsIn file d))) c)
 
 -- a good file has a good head
-pub good-head : (file : List ℕ) → fileJudged file ≡ Good → Head file
+pub good-head : (file : List ℕ) → fileJudged file ≡ good → Head file
 unfolding fileJudged
-good-head file g = go (headJudged file) refl g
-  where
-    go : (h : Checked) → headJudged file ≡ h → andThen h (bodyJudged (dayIn file)) ≡ Good → Head file
-    go Good e k = head-says file e
-    go (Refused why) e k = absurd (false≢true (ap isGood k))
+good-head file g = head-says file (then-done (headJudged file) (bodyJudged (dayIn file)) g .0)
 
 -- the counts that were read, with what their head says
 module _ (file : List ℕ) (h : Head file) {counts : DayCounts} (c : counts ≡ countsIn file) where
@@ -212,21 +195,21 @@ filled file counts {places} p full m x o l q r =
 
 -- the call
 module _ (file : List ℕ) (pools : Parts) {b : Bool} (t : b ≡ poolsFull pools) where
-  pub read-short : b ≡ false → reading (read.Refused refusal.Length) pools ≡ readOf file pools
+  pub read-short : b ≡ false → outcome (refuse 2) pools ≡ readOf file pools
   unfolding readOf
   read-short h = rw (sym t ∙ h)
 
-  module _ (h : b ≡ true) {judged : Checked} (j : judged ≡ fileJudged file) where
-    pub read-refused : {why : Refusal} → judged ≡ Refused why → reading (read.Refused why) pools ≡ readOf file pools
+  module _ (h : b ≡ true) {judged : Verdict} (j : judged ≡ fileJudged file) where
+    pub read-refused : {number : ℕ} {carried : List ℕ} → judged ≡ refused number carried → outcome (refused number carried) pools ≡ readOf file pools
     unfolding readOf
     read-refused e = rw (sym t ∙ h, sym j ∙ e)
 
-    pub read-head : judged ≡ Good → Head file
+    pub read-head : judged ≡ good → Head file
     read-head e = good-head file (sym j ∙ e)
 
-    pub read-good : judged ≡ Good → {counts : DayCounts} → counts ≡ countsIn file → {lists : Parts} → lists ≡ padded (listsIn file counts)
-        → reading (read.Day counts) lists ≡ readOf file pools
+    pub read-good : judged ≡ good → {counts : DayCounts} → counts ≡ countsIn file → {lists : Parts} → lists ≡ padded (listsIn file counts)
+        → outcome (done counts) lists ≡ readOf file pools
     unfolding readOf
     read-good e {counts} c {lists} l =
         rw (sym t ∙ h, sym j ∙ e)
-        (ap (λ (z : Parts). reading (read.Day counts) z) l ∙ ap (λ (d : DayCounts). reading (read.Day d) (padded (listsIn file d))) c)
+        (ap (λ (z : Parts). outcome (done counts) z) l ∙ ap (λ (d : DayCounts). outcome (done d) (padded (listsIn file d))) c)

@@ -2,12 +2,14 @@
 use mathlib.Core.Path.{_≡_, refl}
 use mathlib.Core.List.{List, [], _∷_}
 use Prim.Native.Nat.{ℕ}
+use Rattle.lists.specs.All.{allAtMost}
 use Rattle.lists.specs.Below.{allBelow}
 use Rattle.lists.specs.First.{firstFailing}
 use Rattle.lists.specs.Flat.{listBelow, joinBelow}
-use Rattle.constraint.specs.Check.{countsInRange, rowsOf}
-use Rattle.constraint.specs.declared.check.Checked.the-variants.{Good}
-use Rattle.day_file.specs.Day.{parts, Day, day, countsKeep, levelsRise, lastLevel, allAtMost, rowsJudged}
+use Rattle.constraint.specs.Check.{countsInRange, rowsJudged}
+use Rattle.constraint.specs.Told.{good}
+use Rattle.day_lists.specs.Levels.{levelsInRange, levelsRise, lastLevel}
+use Rattle.day_file.specs.Day.{parts, Day, day, countsKeep, dayRowsJudged}
 use Rattle.day_file.specs.File.{word, wordAt, lengthIn, headBytes, choiceBytes, listsIn, dayIn, bytesOf}
 use Rattle.day_file.specs.Calls.{headJudged, bodyJudged, fileJudged}
 
@@ -21,8 +23,8 @@ sampleDay =
     (record { choices = 2; slots = 2; choosers = 1; levels = 1; rows = 0 })
     (parts (0 ∷ 0 ∷ []) (1 ∷ 1 ∷ []) (0 ∷ 0 ∷ []) (0 ∷ []) (0 ∷ 0 ∷ []) [])
 
-pub sample-good : fileJudged sample ≡ Good
-unfolding fileJudged headJudged bodyJudged countsKeep countsInRange lengthIn wordAt listsIn levelsRise lastLevel allAtMost rowsJudged rowsOf firstFailing allBelow listBelow
+pub sample-good : fileJudged sample ≡ good
+unfolding fileJudged headJudged bodyJudged countsKeep countsInRange levelsInRange lengthIn wordAt listsIn levelsRise lastLevel allAtMost dayRowsJudged rowsJudged firstFailing allBelow listBelow
 sample-good = refl
 
 pub sample-reads : dayIn sample ≡ sampleDay

@@ -1,59 +1,43 @@
 -- What reading a day file answers, and what it leaves in the pools.
-use mathlib.Core.Bool.{Bool, cond}
 use mathlib.Core.List.{List}
 use Prim.Native.Nat.{ℕ, _-_}
 use lib.Dec.{eqb, leb}
 use lib.ListN.{length}
-use Rattle.constraint.specs.declared.check.Checked.{Checked}
-use Rattle.constraint.specs.declared.check.Checked.the-variants as checked
-use Rattle.constraint.specs.declared.refusal.Refusal.{Refusal}
-use Rattle.constraint.specs.declared.refusal.Refusal.the-variants as refusal
-use Rattle.day_file.specs.Day.{Parts, Day, countsKeep, levelsRise, lastLevel, allAtMost, rowsJudged, poolsFull, padded}
-use Rattle.day_file.specs.File.{placesOf, lengthIn, versionIn, countsIn, dayIn}
+use Rattle.lists.specs.All.{allAtMost}
+use Rattle.constraint.specs.Told.{Told, done, Verdict, good, refusalTells, unless, andThen, Outcome, outcome, judged}
+use Rattle.day_lists.specs.Levels.{levelsRise, lastLevel}
+use Rattle.day_file.specs.Day.{Parts, Day, countsKeep, dayRowsJudged, poolsFull, padded}
+use Rattle.day_file.specs.File.{placesOf, lengthIn, versionIn, countsIn, listsIn, dayIn}
+use Rattle.day_file.specs.declared.counts.DayCounts.{DayCounts}
 use Rattle.day_file.specs.declared.read.Read.{Read}
 use Rattle.day_file.specs.declared.read.Read.the-variants as read
 
--- the number where the test fails, else what the rest says
-abbrev pub unless : Bool → Refusal → Checked → Checked
-unless test why rest = cond test rest (checked.Refused why)
-
--- the first answer if it refuses, else the second
-abbrev pub andThen : Checked → Checked → Checked
-andThen checked.Good rest = rest
-andThen (checked.Refused why) rest = checked.Refused why
-
 -- 'a file goes 11, 12, 1, 11 for the counted body'
-unfoldable pub headJudged : List ℕ → Checked
+unfoldable pub headJudged : List ℕ → Verdict
 headJudged file =
-    unless (leb 11 (length file)) refusal.FileLength
-    (unless (eqb (lengthIn file) (length file - 4)) refusal.FileLength
-    (unless (eqb (versionIn file) 1) refusal.Version
-    (unless (countsKeep (countsIn file)) refusal.Count
-    (unless (eqb (placesOf 5 (countsIn file) .end) (length file)) refusal.FileLength checked.Good))))
+    unless (leb 11 (length file)) 11
+    (unless (eqb (lengthIn file) (length file - 4)) 11
+    (unless (eqb (versionIn file) 1) 12
+    (unless (countsKeep (countsIn file)) 1
+    (unless (eqb (placesOf 5 (countsIn file) .end) (length file)) 11 good))))
 
 -- '13, 3, 4, 5'
-unfoldable pub bodyJudged : Day → Checked
+unfoldable pub bodyJudged : Day → Verdict
 bodyJudged d =
-    unless (allAtMost 1 (d .lists .optional)) refusal.Optional
-    (unless (levelsRise (d .lists .levels)) refusal.Levels
-    (unless (allAtMost (lastLevel (d .lists .levels)) (d .lists .preferences)) refusal.Preference (rowsJudged d)))
+    unless (allAtMost 1 (d .lists .optional)) 13
+    (unless (levelsRise (d .lists .levels)) 3
+    (unless (allAtMost (lastLevel (d .lists .levels)) (d .lists .preferences)) 4 (dayRowsJudged d)))
 
-unfoldable pub fileJudged : List ℕ → Checked
+unfoldable pub fileJudged : List ℕ → Verdict
 fileJudged file = andThen (headJudged file) (bodyJudged (dayIn file))
 
--- what a reader answers and leaves in its pools
-pub record Reading : Type 0 where
-  pub answer : Read
-  pub pools : Parts
+-- what a reader's answer tells: the counts of the day in the pools, or 01's number
+abbrev pub readTells : Read → Told DayCounts
+readTells (read.Day counts) = done counts
+readTells (read.Refused why) = refusalTells why
 
-abbrev pub reading : Read → Parts → Reading
-reading answer pools = record { answer = answer; pools = pools }
-
--- the day, each pool zero past its list; or a number and every pool untouched
-abbrev pub readingBy : Checked → Day → Parts → Reading
-readingBy checked.Good d pools = reading (read.Day (d .counts)) (padded (d .lists))
-readingBy (checked.Refused why) d pools = reading (read.Refused why) pools
-
--- a pool of the wrong length is the caller's fault and comes before any fault of the file
-unfoldable pub readOf : List ℕ → Parts → Reading
-readOf file pools = readingBy (unless (poolsFull pools) refusal.Length (fileJudged file)) (dayIn file) pools
+-- the day, each pool zero past its list; or a number and every pool untouched. A pool of the wrong length is the caller's fault and comes before any fault of the file
+unfoldable pub readOf : List ℕ → Parts → Outcome DayCounts Parts
+readOf file pools =
+    judged (unless (poolsFull pools) 2 (fileJudged file)) pools
+    (outcome (done (countsIn file)) (padded (listsIn file (countsIn file))))

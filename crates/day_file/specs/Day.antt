@@ -1,16 +1,16 @@
 -- A day: its counts and its lists, and what 'Numbers a day may have' asks of them.
 use mathlib.Core.Bool.{Bool, true, false, _&&_}
 use mathlib.Core.List.{List}
-use Prim.Native.Nat.{ℕ, _+_, _*_, _-_}
-use lib.Dec.{eqb, ltb, leb}
-use lib.ListN.{length, getD}
-use Rattle.lists.specs.Below.{allBelow}
+use Prim.Native.Nat.{ℕ, _*_}
+use lib.Dec.{eqb, leb}
+use lib.ListN.{length}
+use Rattle.lists.specs.All.{allAtMost}
 use Rattle.lists.specs.Pool.{pad}
-use Rattle.constraint.specs.Check.{countsInRange, rowsOf}
+use Rattle.constraint.specs.Check.{countsInRange, rowsJudged}
 use Rattle.constraint.specs.declared.check.Counts.{Counts}
 use Rattle.constraint.specs.declared.check.Takes.the-variants as takes
-use Rattle.constraint.specs.declared.check.Checked.{Checked}
-use Rattle.constraint.specs.declared.check.Checked.the-variants as checked
+use Rattle.constraint.specs.Told.{Verdict, done, refused}
+use Rattle.day_lists.specs.Levels.{levelsInRange, levelsRise, lastLevel}
 use Rattle.day_file.specs.declared.counts.DayCounts.{DayCounts}
 
 -- the lists of a day, preferences chooser by chooser; also the pools that a reader fills with them
@@ -40,7 +40,7 @@ rowCounts counts = record { choices = counts .choices; slots = counts .slots; ch
 
 -- 'Choices C 0..64, slots S 0..24, choosers H 0..200, levels L 1..64, given rows 0..128'
 unfoldable pub countsKeep : DayCounts → Bool
-countsKeep counts = countsInRange (rowCounts counts) takes.All && leb 1 (counts .levels) && leb (counts .levels) 64
+countsKeep counts = countsInRange (rowCounts counts) takes.Given && levelsInRange (counts .levels)
 
 -- each list 'at the length its counts give'
 unfoldable pub lengthsKeep : DayCounts → Parts → Bool
@@ -52,25 +52,13 @@ lengthsKeep counts lists =
     && eqb (length (lists .preferences)) (counts .choosers * counts .choices)
     && eqb (length (lists .rows)) (counts .rows)
 
--- 'Levels rise strictly'
-unfoldable pub levelsRise : List ℕ → Bool
-levelsRise levels = allBelow (length levels - 1) (λ i. ltb (getD levels i 0) (getD levels (i + 1) 0))
-
--- 'the last stands for max_preference'
-unfoldable pub lastLevel : List ℕ → ℕ
-lastLevel levels = getD levels (length levels - 1) 0
-
--- every entry is at most the limit
-unfoldable pub allAtMost : ℕ → List ℕ → Bool
-allAtMost limit l = allBelow (length l) (λ i. leb (getD l i 0) limit)
-
 -- good, or 5 with the first row that breaks the one table, of which a day may have every kind
-unfoldable pub rowsJudged : Day → Checked
-rowsJudged d = rowsOf (rowCounts (d .counts)) takes.All (d .lists .rows)
+unfoldable pub dayRowsJudged : Day → Verdict
+dayRowsJudged d = rowsJudged (rowCounts (d .counts)) takes.Given (d .lists .rows)
 
-abbrev pub isGood : Checked → Bool
-isGood checked.Good = true
-isGood (checked.Refused why) = false
+abbrev pub isGood : Verdict → Bool
+isGood (done value) = true
+isGood (refused number carried) = false
 
 -- a day is one whose numbers are those that a day may have
 unfoldable pub isDay : Day → Bool
@@ -83,7 +71,7 @@ isDay d =
     && levelsRise (d .lists .levels)
     && leb (lastLevel (d .lists .levels)) 65535
     && allAtMost (lastLevel (d .lists .levels)) (d .lists .preferences)
-    && isGood (rowsJudged d)
+    && isGood (dayRowsJudged d)
 
 -- 'A pool is lent at its full limit'
 unfoldable pub lengthsFull : ℕ → ℕ → ℕ → ℕ → ℕ → ℕ → Bool

@@ -1,6 +1,6 @@
 -- 'Day file': the bytes of a day, and the day in the bytes. 'All big-endian.'
 use mathlib.Core.List.{List, [], _∷_, _++_}
-use Prim.Native.Nat.{ℕ, _+_, _*_, _-_, _/_, _%_, _<_}
+use Prim.Native.Nat.{ℕ, _+_, _*_, _-_, _/_, _%_}
 use lib.ListN.{length, getD}
 use Rattle.lists.specs.Flat.{listBelow, joinBelow}
 use Rattle.constraint.specs.Row.{rowOf, rowNumber}
@@ -15,19 +15,15 @@ word v = v / 256 ∷ v % 256 ∷ []
 unfoldable pub wordAt : List ℕ → ℕ → ℕ
 wordAt file at = getD file at 0 * 256 + getD file (at + 1) 0
 
--- a number of sixteen bits in two's complement, 32,768 higher; and the same back
-unfoldable pub turned : ℕ → ℕ
-turned v = (v + 32768) % 65536
+-- a number of sixteen bits with its highest bit turned over: from two's complement to 32,768 higher, and the same back
+unfoldable pub signBitFlipped : ℕ → ℕ
+signBitFlipped v = (v + 32768) % 65536
 
 -- 'rows as kind, left (1 each), right, extra (2 each, extra in two's complement)'
 unfoldable pub rowBytes : ℕ → List ℕ
 rowBytes number =
     let row = rowOf number in
-    row .kind ∷ row .left ∷ (word (row .right) ++ word (turned (row .extra)))
-
--- kind and left fit their byte
-abbrev pub BytesHold : ℕ → Type 0
-BytesHold number = (rowOf number .kind < 256) × (rowOf number .left < 256)
+    row .kind ∷ row .left ∷ (word (row .right) ++ word (signBitFlipped (row .extra)))
 
 unfoldable pub rowAt : List ℕ → ℕ → ℕ
 rowAt file at =
@@ -36,7 +32,7 @@ rowAt file at =
       kind = getD file at 0;
       left = getD file (at + 1) 0;
       right = wordAt file (at + 2);
-      extra = turned (wordAt file (at + 4));
+      extra = signBitFlipped (wordAt file (at + 4));
     })
 
 -- where levels, preferences and rows start and the file ends, for choices of `wide` bytes each
@@ -46,6 +42,10 @@ placesOf wide counts =
     let preferences = levels + 2 * counts .levels in
     let rows = preferences + 2 * (counts .choosers * counts .choices) in
     record { levels = levels; preferences = preferences; rows = rows; end = rows + 6 * counts .rows }
+
+-- 'over 26,827 bytes: 11', and '26,827 bytes for a file to be written': every count at its limit
+abbrev pub longestFile : ℕ
+longestFile = 26827
 
 -- 'Four bytes: length of the rest. Then version 1, C, S, H, L (a byte each), row count (2 bytes).'
 unfoldable pub headBytes : ℕ → DayCounts → List ℕ

@@ -40,7 +40,7 @@ impl DayCounts {
     pub fn in_range(self) -> bool
         ensures { λ r. ⌜ r ≡ countsKeep self ⌝ }
     {
-        if !constraint::check::counts_in_range(self.for_rows(), Takes::All) {
+        if !constraint::check::counts_in_range(self.for_rows(), Takes::Given) {
             return false;
         }
         if self.levels < 1 {

@@ -1,22 +1,26 @@
 // Filling a pool from a file: the values from the front, zero past them.
 use super::word::row_at;
 use super::word::word_at;
+use pools::clear_bytes;
+use pools::clear_numbers;
+use pools::clear_words;
 ghost use mathlib.Core.Path.{_≡_};
 ghost use Prim.Native.Nat.{ℕ, _+_, _*_, _<_, _≤_};
-ghost use lib.ListN.{length, getD};
-ghost use Rattle.lists.specs.Flat.{listBelow, orZero};
+ghost use lib.ListN.{length, getD, take};
+ghost use Rattle.lists.specs.Flat.{listBelow};
 ghost use Rattle.lists.specs.Pool.{pad};
 ghost use Rattle.day_file.specs.File.{wordAt, rowAt};
 
-// Word i of n that stand `step` bytes apart, or zero past them.
-fn word_or_zero(file: &[u8], at: usize, step: usize, n: usize, i: usize) -> u16
-    requires { ⌜ ((k : ℕ) → k < n → at + step * k + 1 < length (now file)) ⌝ }
-    ensures { λ r. ⌜ r ≡ orZero n (λ k. wordAt (now (file .entry)) (at + step * k)) i ⌝ }
+// The n words that stand `step` bytes apart in the file, into the front of a pool.
+fn put_words(file: &[u8], at: usize, step: usize, n: usize, pool: &mut [u16])
+    requires { ⌜ n ≤ length (now pool) ⌝ ∗ ⌜ ((k : ℕ) → k < n → at + step * k + 1 < length (now file)) ⌝ }
+    ensures { λ _. ⌜ take n (now (pool .exit)) ≡ listBelow n (λ k. wordAt (now (file .entry)) (at + step * k)) ⌝ }
 {
-    if n <= i {
-        return 0u16;
+    let mut i = 0;
+    while i < n {
+        pool[i] = word_at(file, at + step * i);
+        i += 1;
     }
-    word_at(file, at + step * i)
 }
 
 // A pool of words: n that stand `step` bytes apart in the file, then zeros.
@@ -24,22 +28,20 @@ pub(crate) fn fill_words(file: &[u8], at: usize, step: usize, n: usize, pool: &m
     requires { ⌜ n ≤ length (now pool) ⌝ ∗ ⌜ ((k : ℕ) → k < n → at + step * k + 1 < length (now file)) ⌝ }
     ensures { λ _. ⌜ now (pool .exit) ≡ pad (length (now (pool .entry))) (listBelow n (λ k. wordAt (now (file .entry)) (at + step * k))) ⌝ }
 {
-    let mut i = 0;
-    while i < pool.len() {
-        pool[i] = word_or_zero(file, at, step, n, i);
-        i += 1;
-    }
+    put_words(file, at, step, n, pool);
+    clear_words(&mut pool[n..]);
 }
 
-// The optional byte of choice i of n, or zero past them.
-fn optional_or_zero(file: &[u8], n: usize, i: usize) -> u8
-    requires { ⌜ 11 + 5 * n ≤ length (now file) ⌝ }
-    ensures { λ r. ⌜ r ≡ orZero n (λ k. getD (now (file .entry)) (15 + 5 * k) 0) i ⌝ }
+// The optional bytes of n choices, into the front of a pool.
+fn put_optional(file: &[u8], n: usize, pool: &mut [u8])
+    requires { ⌜ n ≤ length (now pool) ⌝ ∗ ⌜ 11 + 5 * n ≤ length (now file) ⌝ }
+    ensures { λ _. ⌜ take n (now (pool .exit)) ≡ listBelow n (λ k. getD (now (file .entry)) (15 + 5 * k) 0) ⌝ }
 {
-    if n <= i {
-        return 0u8;
+    let mut i = 0;
+    while i < n {
+        pool[i] = file[15 + 5 * i];
+        i += 1;
     }
-    file[15 + 5 * i]
 }
 
 // A pool of optional bytes: those of n choices, then zeros.
@@ -47,22 +49,20 @@ pub(crate) fn fill_optional(file: &[u8], n: usize, pool: &mut [u8])
     requires { ⌜ n ≤ length (now pool) ⌝ ∗ ⌜ 11 + 5 * n ≤ length (now file) ⌝ }
     ensures { λ _. ⌜ now (pool .exit) ≡ pad (length (now (pool .entry))) (listBelow n (λ k. getD (now (file .entry)) (15 + 5 * k) 0)) ⌝ }
 {
-    let mut i = 0;
-    while i < pool.len() {
-        pool[i] = optional_or_zero(file, n, i);
-        i += 1;
-    }
+    put_optional(file, n, pool);
+    clear_bytes(&mut pool[n..]);
 }
 
-// Row i of the n from a place on, or zero past them.
-fn row_or_zero(file: &[u8], at: usize, n: usize, i: usize) -> u64
-    requires { ⌜ at + 6 * n ≤ length (now file) ⌝ }
-    ensures { λ r. ⌜ r ≡ orZero n (λ k. rowAt (now (file .entry)) (at + 6 * k)) i ⌝ }
+// The n rows from a place on, into the front of a pool.
+pub(crate) fn put_rows(file: &[u8], at: usize, n: usize, pool: &mut [u64])
+    requires { ⌜ n ≤ length (now pool) ⌝ ∗ ⌜ at + 6 * n ≤ length (now file) ⌝ }
+    ensures { λ _. ⌜ take n (now (pool .exit)) ≡ listBelow n (λ k. rowAt (now (file .entry)) (at + 6 * k)) ⌝ }
 {
-    if n <= i {
-        return 0u64;
+    let mut i = 0;
+    while i < n {
+        pool[i] = row_at(file, at + 6 * i);
+        i += 1;
     }
-    row_at(file, at + 6 * i)
 }
 
 // A pool of rows: the n from a place on, then zeros.
@@ -70,9 +70,6 @@ pub(crate) fn fill_rows(file: &[u8], at: usize, n: usize, pool: &mut [u64])
     requires { ⌜ n ≤ length (now pool) ⌝ ∗ ⌜ at + 6 * n ≤ length (now file) ⌝ }
     ensures { λ _. ⌜ now (pool .exit) ≡ pad (length (now (pool .entry))) (listBelow n (λ k. rowAt (now (file .entry)) (at + 6 * k))) ⌝ }
 {
-    let mut i = 0;
-    while i < pool.len() {
-        pool[i] = row_or_zero(file, at, n, i);
-        i += 1;
-    }
+    put_rows(file, at, n, pool);
+    clear_numbers(&mut pool[n..]);
 }

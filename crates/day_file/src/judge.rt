@@ -1,5 +1,5 @@
 // The tests of a file's body, on its bytes.
-use super::fill::fill_rows;
+use super::fill::put_rows;
 use super::word::word_at;
 use constraint::check::Checked;
 use constraint::check::Counts;
@@ -10,7 +10,7 @@ ghost use lib.Dec.{leb, ltb};
 ghost use lib.ListN.{length, getD};
 ghost use Rattle.lists.specs.Below.{allBelow};
 ghost use Rattle.lists.specs.Flat.{listBelow};
-ghost use Rattle.constraint.specs.Check.{rowsOf};
+ghost use Rattle.constraint.specs.Check.{checkedTells, rowsJudged};
 ghost use Rattle.constraint.specs.declared.check.Takes.the-variants as takes;
 ghost use Rattle.day_file.specs.File.{wordAt, rowAt};
 
@@ -69,9 +69,9 @@ fn no_rows() -> [u64; 128]
 // The row check on the n rows from a place on: the one table judges them.
 pub(crate) fn rows_in(file: &[u8], at: usize, n: usize, counts: Counts) -> Checked
     requires { ⌜ n ≤ 128 ⌝ ∗ ⌜ at + 6 * n ≤ length (now file) ⌝ }
-    ensures { λ r. ⌜ r ≡ rowsOf counts takes.All (listBelow n (λ i. rowAt (now (file .entry)) (at + 6 * i))) ⌝ }
+    ensures { λ r. ⌜ checkedTells r ≡ rowsJudged counts takes.Given (listBelow n (λ i. rowAt (now (file .entry)) (at + 6 * i))) ⌝ }
 {
     let mut rows = no_rows();
-    fill_rows(file, at, n, &mut rows);
-    constraint::check::check_each_row(counts, Takes::All, &rows[..n])
+    put_rows(file, at, n, &mut rows);
+    constraint::check::check_each_row(counts, Takes::Given, &rows[..n])
 }

@@ -14,10 +14,11 @@ ghost use mathlib.Core.Path.{_≡_};
 ghost use mathlib.Core.Bool.{true};
 ghost use Prim.Native.Nat.{_≤_};
 ghost use lib.ListN.{length};
-ghost use Rattle.constraint.specs.declared.check.Checked.the-variants as checked;
+ghost use Rattle.constraint.specs.Check.{checkedTells};
+ghost use Rattle.constraint.specs.Told.{outcome};
 ghost use Rattle.day_file.specs.Day.{parts, countsKeep, poolsFull, lengthsFull, padded, day};
 ghost use Rattle.day_file.specs.File.{lengthIn, countsIn, placesOf, listsIn};
-ghost use Rattle.day_file.specs.Calls.{headJudged, bodyJudged, fileJudged, reading, readOf};
+ghost use Rattle.day_file.specs.Calls.{headJudged, bodyJudged, fileJudged, readTells, readOf};
 
 // What reading answers: the counts of the day that stands in the pools, or why there is none.
 pub enum Read {
@@ -51,7 +52,7 @@ fn counts_in(file: &[u8]) -> DayCounts
 
 // 'a file goes 11, 12, 1, 11 for the counted body'.
 fn judge_head(file: &[u8]) -> Checked
-    ensures { λ r. ⌜ r ≡ headJudged (now (file .entry)) ⌝ }
+    ensures { λ r. ⌜ checkedTells r ≡ headJudged (now (file .entry)) ⌝ }
 {
     if file.len() < 11 {
         return Checked::Refused(Refusal::FileLength);
@@ -75,7 +76,7 @@ fn judge_head(file: &[u8]) -> Checked
 // '13, 3, 4, 5', of a file whose head is good.
 fn judge_body(file: &[u8], counts: DayCounts) -> Checked
     requires { ⌜ countsKeep counts ≡ true ⌝ ∗ ⌜ placesOf 5 counts .end ≡ length (now file) ⌝ }
-    ensures { λ r. ⌜ r ≡ bodyJudged (day counts (listsIn (now (file .entry)) counts)) ⌝ }
+    ensures { λ r. ⌜ checkedTells r ≡ bodyJudged (day counts (listsIn (now (file .entry)) counts)) ⌝ }
 {
     let places = counts.places();
     if !optional_in(file, counts.choices) {
@@ -98,7 +99,7 @@ fn judge_body(file: &[u8], counts: DayCounts) -> Checked
 
 // The whole file, judged with no pool touched.
 fn judge_file(file: &[u8]) -> Checked
-    ensures { λ r. ⌜ r ≡ fileJudged (now (file .entry)) ⌝ }
+    ensures { λ r. ⌜ checkedTells r ≡ fileJudged (now (file .entry)) ⌝ }
 {
     let head = judge_head(file);
     if let Checked::Refused(why) = head {
@@ -175,7 +176,7 @@ pub fn read_day(
     preferences: &mut [u16],
     rows: &mut [u64],
 ) -> Read
-    ensures { λ r. ⌜ reading r (parts (now (mins .exit)) (now (maxs .exit)) (now (optional .exit)) (now (levels .exit)) (now (preferences .exit)) (now (rows .exit))) ≡ readOf (now (file .entry)) (parts (now (mins .entry)) (now (maxs .entry)) (now (optional .entry)) (now (levels .entry)) (now (preferences .entry)) (now (rows .entry))) ⌝ }
+    ensures { λ r. ⌜ outcome (readTells r) (parts (now (mins .exit)) (now (maxs .exit)) (now (optional .exit)) (now (levels .exit)) (now (preferences .exit)) (now (rows .exit))) ≡ readOf (now (file .entry)) (parts (now (mins .entry)) (now (maxs .entry)) (now (optional .entry)) (now (levels .entry)) (now (preferences .entry)) (now (rows .entry))) ⌝ }
 {
     if !pools_full(
         mins.len(),

@@ -3,7 +3,10 @@ use constraint::row::Row;
 ghost use mathlib.Core.Path.{_≡_};
 ghost use Prim.Native.Nat.{_+_, _<_};
 ghost use lib.ListN.{length};
-ghost use Rattle.day_file.specs.File.{wordAt, turned, rowAt};
+ghost use Rattle.day_file.specs.File.{wordAt, signBitFlipped, rowAt};
+
+// The longest file: every count at its limit.
+pub const LONGEST_FILE: usize = 26_827;
 
 // A byte as a number of two.
 fn wide(byte: u8) -> u16
@@ -22,9 +25,9 @@ pub(crate) fn word_at(file: &[u8], at: usize) -> u16
     high * 256 + low
 }
 
-// An extra in two's complement, 32,768 higher as a row keeps it; and the same back.
-pub fn turn(v: u16) -> u16
-    ensures { λ r. ⌜ r ≡ turned v ⌝ }
+// An extra from two's complement to 32,768 higher, as a row keeps it; and the same back.
+pub fn flip_sign_bit(v: u16) -> u16
+    ensures { λ r. ⌜ r ≡ signBitFlipped v ⌝ }
 {
     if v < 32768 {
         return v + 32768;
@@ -41,7 +44,7 @@ pub(crate) fn row_at(file: &[u8], at: usize) -> u64
         kind: wide(file[at]),
         left: wide(file[at + 1]),
         right: word_at(file, at + 2),
-        extra: turn(word_at(file, at + 4)),
+        extra: flip_sign_bit(word_at(file, at + 4)),
     };
     row.number()
 }

@@ -1,5 +1,5 @@
 -- Writing a file: a law for each way through its functions.
-use mathlib.Core.Path.{_≡_, refl, sym, _∙_, ap}
+use mathlib.Core.Path.{_≡_, sym, _∙_, ap}
 use mathlib.Core.Bool.{Bool, true, false}
 use mathlib.Core.List.{List, [], _∷_, _++_}
 use Prim.Native.Nat.{ℕ, suc, _+_, _*_, _-_, _/_, _%_, _≤_, _<_}
@@ -9,29 +9,27 @@ use borrow.Author.Tests.{eq-eqb, ne-eqb, eqb-true}
 use lib.Dec.{eqb}
 use lib.ListN.{length, getD, set, replicate}
 use lib.Seq.{sets}
+use Rattle.lists.specs.All.{allAtMost}
 use Rattle.lists.specs.Flat.{joinBelow}
 use Rattle.lists.specs.Pool.{pad}
 use Rattle.lists.proofs.Stores.{sets-append, sets-zeros}
 use Rattle.constraint.specs.Row.{rowOf}
-use Rattle.constraint.specs.Check.{rowsOf}
+use Rattle.constraint.specs.Check.{rowsJudged}
 use Rattle.constraint.specs.declared.row.Row.{Row}
 use Rattle.constraint.specs.declared.check.Counts.{Counts}
 use Rattle.constraint.specs.declared.check.Takes.the-variants as takes
-use Rattle.constraint.specs.declared.check.Checked.{Checked}
-use Rattle.constraint.specs.declared.check.Checked.the-variants.{Good, Refused}
-use Rattle.constraint.specs.declared.refusal.Refusal.{Refusal}
-use Rattle.constraint.specs.declared.refusal.Refusal.the-variants as refusal
-use Rattle.day_file.specs.Day.{Parts, Day, day, rowCounts, countsKeep, lengthsKeep, levelsRise, lastLevel, allAtMost, rowsJudged}
-use Rattle.day_file.specs.File.{word, turned, rowBytes, headBytes, choiceBytes, bytesOf, placesOf, BytesHold}
-use Rattle.day_file.specs.Calls.{unless, andThen}
+use Rattle.constraint.specs.Told.{done, refused, Verdict, good, refuse, outcome}
+use Rattle.constraint.proofs.ToldLaws.{unless-done, then-done}
+use Rattle.day_lists.specs.Levels.{levelsRise, lastLevel}
+use Rattle.day_file.specs.Day.{Parts, Day, day, rowCounts, countsKeep, lengthsKeep, dayRowsJudged}
+use Rattle.day_file.specs.File.{word, signBitFlipped, rowBytes, headBytes, choiceBytes, bytesOf, placesOf, longestFile}
 use Rattle.day_file.specs.declared.counts.DayCounts.{DayCounts}
 use Rattle.constraint.proofs.KeptLaws.{good-each}
 use Rattle.constraint.proofs.RowBytes.{keeps-kind, keeps-left}
 use Rattle.day_file.proofs.CountLaws.{InRange, in-range}
-use Rattle.day_file.proofs.FileLaws.{Lengths, lengths, length-head, length-choices, length-words, length-bytes, end-most}
-use Rattle.day_file.proofs.ReadLaws.{unless-test, unless-rest}
-use Rattle.day_writer.specs.Calls.{longest, listsJudged, dayJudged, writing, writeOf}
-use Rattle.day_writer.specs.declared.write.Written.the-variants as written
+use Rattle.day_file.proofs.FileLaws.{Lengths, length-head, length-choices, length-words, length-bytes, end-most}
+use Rattle.day_writer.specs.steps.Held.{BytesHold}
+use Rattle.day_writer.specs.Calls.{listsJudged, dayJudged, writeOf}
 
 -- records of two, five and six bytes, put one part after the other
 pub word-put : (pool : List ℕ) (at v : ℕ) → set (set pool at (v / 256)) (at + 1) (v % 256) ≡ sets pool at (word v)
@@ -46,7 +44,7 @@ choice-put pool at min max optional p q =
     let four : at + 4 ≡ suc (suc (suc (suc at))) = omega arith in
     rw (q, p, two, four)
 
-pub row-put : (pool : List ℕ) (at number : ℕ) {row : Row} {extra : ℕ} {a b : List ℕ} → row ≡ rowOf number → extra ≡ turned (row .extra)
+pub row-put : (pool : List ℕ) (at number : ℕ) {row : Row} {extra : ℕ} {a b : List ℕ} → row ≡ rowOf number → extra ≡ signBitFlipped (row .extra)
     → a ≡ sets (set (set pool at (row .kind)) (at + 1) (row .left)) (at + 2) (word (row .right)) → b ≡ sets a (at + 4) (word extra)
     → b ≡ sets pool at (rowBytes number)
 unfolding rowBytes word
@@ -55,7 +53,7 @@ row-put pool at number {row} {extra} r x p q =
     let two : at + 2 ≡ suc (suc at) = omega arith in
     let four : at + 4 ≡ suc (suc (suc (suc at))) = omega arith in
     rw (q, p, x, one, two, four)
-    (ap (λ (z : Row). sets pool at (z .kind ∷ z .left ∷ (word (z .right) ++ word (turned (z .extra))))) r)
+    (ap (λ (z : Row). sets pool at (z .kind ∷ z .left ∷ (word (z .right) ++ word (signBitFlipped (z .extra))))) r)
 
 -- kind and left of a row that holds the table fit a byte each
 pub kind-fits : (number : ℕ) {row : Row} → row ≡ rowOf number → BytesHold number → row .kind < 256
@@ -89,21 +87,21 @@ rest-fits r e = omega (arith, end-most r)
 -- the five parts, one after the other, in a pool of zeros
 module _ (counts : DayCounts) (lists : Parts) (k : Lengths counts lists) (r : InRange counts) where
   -- each part's room in the pool
-  pub choices-room : {pool : ℕ} → pool ≡ longest
+  pub choices-room : {pool : ℕ} → pool ≡ longestFile
       → (counts .choices ≤ length (lists .mins)) × ((counts .choices ≤ length (lists .maxs)) × ((counts .choices ≤ length (lists .optional)) × (11 + 5 * counts .choices ≤ pool)))
   choices-room e = (omega (arith, k .mins-long), (omega (arith, k .maxs-long), (omega (arith, k .optional-long), omega (arith, end-most r))))
 
-  pub levels-room : {pool at : ℕ} → pool ≡ longest → at ≡ 11 + 5 * counts .choices → at + 2 * length (lists .levels) ≤ pool
+  pub levels-room : {pool at : ℕ} → pool ≡ longestFile → at ≡ 11 + 5 * counts .choices → at + 2 * length (lists .levels) ≤ pool
   levels-room e a = omega (arith, end-most r, k .levels-long)
 
-  pub preferences-room : {pool at next : ℕ} → pool ≡ longest → at ≡ 11 + 5 * counts .choices → next ≡ at + 2 * length (lists .levels) → next + 2 * length (lists .preferences) ≤ pool
+  pub preferences-room : {pool at next : ℕ} → pool ≡ longestFile → at ≡ 11 + 5 * counts .choices → next ≡ at + 2 * length (lists .levels) → next + 2 * length (lists .preferences) ≤ pool
   preferences-room e a n = omega (arith, end-most r, k .levels-long, k .preferences-long)
 
-  pub rows-room : {pool at next last : ℕ} → pool ≡ longest → at ≡ 11 + 5 * counts .choices → next ≡ at + 2 * length (lists .levels) → last ≡ next + 2 * length (lists .preferences)
+  pub rows-room : {pool at next last : ℕ} → pool ≡ longestFile → at ≡ 11 + 5 * counts .choices → next ≡ at + 2 * length (lists .levels) → last ≡ next + 2 * length (lists .preferences)
       → last + 6 * length (lists .rows) ≤ pool
   rows-room e a n m = omega (arith, end-most r, k .levels-long, k .preferences-long, k .rows-long)
 
-  pub parts-put : (zeros : List ℕ) {a b c d e : List ℕ} {levels preferences rows end : ℕ} → zeros ≡ replicate longest 0
+  pub parts-put : (zeros : List ℕ) {a b c d e : List ℕ} {levels preferences rows end : ℕ} → zeros ≡ replicate longestFile 0
       → a ≡ sets zeros 0 (headBytes 1 counts)
       → levels ≡ 11 + 5 * counts .choices
       → b ≡ sets a 11 (joinBelow (counts .choices) (choiceBytes (lists .mins) (lists .maxs) (lists .optional)))
@@ -113,7 +111,7 @@ module _ (counts : DayCounts) (lists : Parts) (k : Lengths counts lists) (r : In
       → d ≡ sets c preferences (joinBelow (length (lists .preferences)) (λ i. word (getD (lists .preferences) i 0)))
       → end ≡ rows + 6 * length (lists .rows)
       → e ≡ sets d rows (joinBelow (length (lists .rows)) (λ i. rowBytes (getD (lists .rows) i 0)))
-      → writing (written.Bytes end) e ≡ writing (written.Bytes (length (bytesOf (day counts lists)))) (pad longest (bytesOf (day counts lists)))
+      → outcome (done end) e ≡ outcome (done (length (bytesOf (day counts lists)))) (pad longestFile (bytesOf (day counts lists)))
   unfolding bytesOf
   parts-put zeros {a} {b} {c} {d} {e} {levels} {preferences} {rows} {end} z p1 n1 p2 n2 p3 n3 p4 n4 p5 =
       let choices = joinBelow (counts .choices) (choiceBytes (lists .mins) (lists .maxs) (lists .optional)) in
@@ -134,69 +132,62 @@ module _ (counts : DayCounts) (lists : Parts) (k : Lengths counts lists) (r : In
       in
       let size : length (bytesOf (day counts lists)) ≡ placesOf 5 counts .end = length-bytes counts lists k in
       let there : end ≡ length (bytesOf (day counts lists)) = omega (arith, k .levels-long, k .preferences-long, k .rows-long) in
-      let room : length (bytesOf (day counts lists)) ≤ longest = omega (arith, end-most r) in
-      ap (λ (n : ℕ). writing (written.Bytes n) e) there
-      ∙ ap (λ (l : List ℕ). writing (written.Bytes (length (bytesOf (day counts lists)))) l)
-      (whole ∙ ap (λ (l : List ℕ). sets l 0 (bytesOf (day counts lists))) z ∙ sets-zeros longest (bytesOf (day counts lists)) room)
+      let room : length (bytesOf (day counts lists)) ≤ longestFile = omega (arith, end-most r) in
+      ap (λ (n : ℕ). outcome (done n) e) there
+      ∙ ap (λ (l : List ℕ). outcome (done (length (bytesOf (day counts lists)))) l)
+      (whole ∙ ap (λ (l : List ℕ). sets l 0 (bytesOf (day counts lists))) z ∙ sets-zeros longestFile (bytesOf (day counts lists)) room)
 
 -- the day's lists: 3, 4, 5, 13
 module _ (d : Day) {l : Bool} (lt : l ≡ levelsRise (d .lists .levels)) where
-  pub lists-levels : l ≡ false → Refused refusal.Levels ≡ listsJudged d
+  pub lists-levels : l ≡ false → refuse 3 ≡ listsJudged d
   unfolding listsJudged
   lists-levels h = rw (sym lt ∙ h)
 
   module _ (lh : l ≡ true) {p : Bool} (pt : p ≡ allAtMost (lastLevel (d .lists .levels)) (d .lists .preferences)) where
-    pub lists-preference : p ≡ false → Refused refusal.Preference ≡ listsJudged d
+    pub lists-preference : p ≡ false → refuse 4 ≡ listsJudged d
     unfolding listsJudged
     lists-preference h = rw (sym lt ∙ lh, sym pt ∙ h)
 
-    module _ (ph : p ≡ true) {judged : Checked} (j : judged ≡ rowsJudged d) where
-      pub lists-rows : {why : Refusal} → judged ≡ Refused why → Refused why ≡ listsJudged d
+    module _ (ph : p ≡ true) {judged : Verdict} (j : judged ≡ dayRowsJudged d) where
+      pub lists-rows : {number : ℕ} {carried : List ℕ} → judged ≡ refused number carried → refused number carried ≡ listsJudged d
       unfolding listsJudged
       lists-rows e = rw (sym lt ∙ lh, sym pt ∙ ph, sym j ∙ e)
 
-      module _ (e : judged ≡ Good) {o : Bool} (ot : o ≡ allAtMost 1 (d .lists .optional)) where
-        pub lists-optional : o ≡ false → Refused refusal.Optional ≡ listsJudged d
+      module _ (e : judged ≡ good) {o : Bool} (ot : o ≡ allAtMost 1 (d .lists .optional)) where
+        pub lists-optional : o ≡ false → refuse 13 ≡ listsJudged d
         unfolding listsJudged
         lists-optional h = rw (sym lt ∙ lh, sym pt ∙ ph, sym j ∙ e, sym ot ∙ h)
 
-        pub lists-good : o ≡ true → Good ≡ listsJudged d
+        pub lists-good : o ≡ true → good ≡ listsJudged d
         unfolding listsJudged
         lists-good h = rw (sym lt ∙ lh, sym pt ∙ ph, sym j ∙ e, sym ot ∙ h)
 
 -- the last level, and the rows, as the call reads them
-pub last-level : (levels preferences : List ℕ) {last : ℕ} {b : Bool} → last ≡ length levels - 1 → b ≡ allAtMost (getD levels last 0) preferences
+pub last-level : (levels preferences : List ℕ) {last : ℕ} {b : Bool} → last ≡ lastLevel levels → b ≡ allAtMost last preferences
     → b ≡ allAtMost (lastLevel levels) preferences
-unfolding lastLevel
 last-level levels preferences e t = rw (sym e) t
 
-pub rows-judged : (d : Day) {asked : Counts} {judged : Checked} → asked ≡ rowCounts (d .counts) → judged ≡ rowsOf asked takes.All (d .lists .rows) → judged ≡ rowsJudged d
-unfolding rowsJudged
-rows-judged d a j = j ∙ ap (λ (c : Counts). rowsOf c takes.All (d .lists .rows)) a
+pub rows-judged : (d : Day) {asked : Counts} {judged : Verdict} → asked ≡ rowCounts (d .counts) → judged ≡ rowsJudged asked takes.Given (d .lists .rows) → judged ≡ dayRowsJudged d
+unfolding dayRowsJudged
+rows-judged d a j = j ∙ ap (λ (c : Counts). rowsJudged c takes.Given (d .lists .rows)) a
 
 -- the call's tests: 1, 2, then the lists
 module _ (d : Day) (room : ℕ) {b : Bool} (t : b ≡ countsKeep (d .counts)) where
-  pub day-count : b ≡ false → Refused refusal.Count ≡ dayJudged d room
+  pub day-count : b ≡ false → refuse 1 ≡ dayJudged d room
   unfolding dayJudged
   day-count h = rw (sym t ∙ h)
 
   module _ (h : b ≡ true) {l : Bool} (lt : l ≡ lengthsKeep (d .counts) (d .lists)) where
-    pub day-lengths : l ≡ false → Refused refusal.Length ≡ dayJudged d room
+    pub day-lengths : l ≡ false → refuse 2 ≡ dayJudged d room
     unfolding dayJudged
     day-lengths e = rw (sym t ∙ h, sym lt ∙ e)
 
-    pub day-some : l ≡ true → 1 ≤ length (d .lists .levels)
-    day-some e =
-        let r = in-range (d .counts) (sym t ∙ h) in
-        let k = lengths (d .counts) (d .lists) (sym lt ∙ e) in
-        rw (k .levels-long) (r .some)
-
     module _ (lh : l ≡ true) where
-      pub day-room : (room ≡ longest → ⊥) → Refused refusal.Length ≡ dayJudged d room
+      pub day-room : (room ≡ longestFile → ⊥) → refuse 2 ≡ dayJudged d room
       unfolding dayJudged
       day-room n = rw (sym t ∙ h, sym lt ∙ lh, ne-eqb _ _ n)
 
-      pub day-lists : room ≡ longest → {judged : Checked} → judged ≡ listsJudged d → judged ≡ dayJudged d room
+      pub day-lists : room ≡ longestFile → {judged : Verdict} → judged ≡ listsJudged d → judged ≡ dayJudged d room
       unfolding dayJudged
       day-lists e j = rw (sym t ∙ h, sym lt ∙ lh, eq-eqb _ _ e) j
 
@@ -204,57 +195,45 @@ module _ (d : Day) (room : ℕ) {b : Bool} (t : b ≡ countsKeep (d .counts)) wh
 pub record DayGood (d : Day) (room : ℕ) : Type 0 where
   pub counts-good : countsKeep (d .counts) ≡ true
   pub lengths-good : lengthsKeep (d .counts) (d .lists) ≡ true
-  pub room-good : room ≡ longest
-  pub lists-are-good : listsJudged d ≡ Good
+  pub room-good : room ≡ longestFile
+  pub lists-are-good : listsJudged d ≡ good
 
-pub day-good : (d : Day) (room : ℕ) → dayJudged d room ≡ Good → DayGood d room
+pub day-good : (d : Day) (room : ℕ) → dayJudged d room ≡ good → DayGood d room
 unfolding dayJudged
 day-good d room g =
-    let a = countsKeep (d .counts) in
-    let b = lengthsKeep (d .counts) (d .lists) in
-    let c = eqb room longest in
-    let g1 = unless-rest a _ _ g in
-    let g2 = unless-rest b _ _ g1 in
-    record {
-      counts-good = unless-test a _ _ g;
-      lengths-good = unless-test b _ _ g1;
-      room-good = eqb-true _ _ (unless-test c _ _ g2);
-      lists-are-good = unless-rest c _ _ g2;
-    }
+    let counts = unless-done (countsKeep (d .counts)) _ _ g in
+    let lists = unless-done (lengthsKeep (d .counts) (d .lists)) _ _ (counts .1) in
+    let fits = unless-done (eqb room longestFile) _ _ (lists .1) in
+    record { counts-good = counts .0; lengths-good = lists .0; room-good = eqb-true _ _ (fits .0); lists-are-good = fits .1 }
 
-pub rows-good : (d : Day) → listsJudged d ≡ Good → rowsJudged d ≡ Good
+pub rows-good : (d : Day) → listsJudged d ≡ good → dayRowsJudged d ≡ good
 unfolding listsJudged
 rows-good d g =
-    let l = levelsRise (d .lists .levels) in
-    let p = allAtMost (lastLevel (d .lists .levels)) (d .lists .preferences) in
-    let g1 = unless-rest l _ _ g in
-    go (rowsJudged d) (unless-rest p _ _ g1)
-  where
-    go : (c : Checked) → andThen c (unless (allAtMost 1 (d .lists .optional)) refusal.Optional Good) ≡ Good → c ≡ Good
-    go Good e = refl
-    go (Refused why) e = e
+    let levels = unless-done (levelsRise (d .lists .levels)) _ _ g in
+    let preferences = unless-done (allAtMost (lastLevel (d .lists .levels)) (d .lists .preferences)) _ _ (levels .1) in
+    then-done (dayRowsJudged d) _ (preferences .1) .0
 
 -- rows of a good day fit their bytes
-pub rows-fit : (d : Day) → countsKeep (d .counts) ≡ true → rowsJudged d ≡ Good → (i : ℕ) → i < length (d .lists .rows) → BytesHold (getD (d .lists .rows) i 0)
-unfolding rowsJudged
+pub rows-fit : (d : Day) → countsKeep (d .counts) ≡ true → dayRowsJudged d ≡ good → (i : ℕ) → i < length (d .lists .rows) → BytesHold (getD (d .lists .rows) i 0)
+unfolding dayRowsJudged
 rows-fit d k g i h =
     let r = in-range (d .counts) k in
-    let t = good-each (rowCounts (d .counts)) takes.All (d .lists .rows) g i h in
+    let t = good-each (rowCounts (d .counts)) takes.Given (d .lists .rows) g i h in
     let number = getD (d .lists .rows) i 0 in (
       omega (arith, keeps-kind (rowCounts (d .counts)) number t),
       keeps-left (rowCounts (d .counts)) number t 256 (omega arith) (omega arith) (omega arith),
     )
 
 -- the call
-module _ (d : Day) (pool : List ℕ) {judged : Checked} (j : judged ≡ dayJudged d (length pool)) where
-  pub write-refused : {why : Refusal} → judged ≡ Refused why → writing (written.Refused why) pool ≡ writeOf d pool
+module _ (d : Day) (pool : List ℕ) {judged : Verdict} (j : judged ≡ dayJudged d (length pool)) where
+  pub write-refused : {number : ℕ} {carried : List ℕ} → judged ≡ refused number carried → outcome (refused number carried) pool ≡ writeOf d pool
   unfolding writeOf
   write-refused e = rw (sym j ∙ e)
 
-  pub write-asks : judged ≡ Good → DayGood d (length pool)
+  pub write-asks : judged ≡ good → DayGood d (length pool)
   write-asks e = day-good d (length pool) (sym j ∙ e)
 
-  pub write-good : judged ≡ Good → {n : ℕ} {bytes : List ℕ} → writing (written.Bytes n) bytes ≡ writing (written.Bytes (length (bytesOf d))) (pad longest (bytesOf d))
-      → writing (written.Bytes n) bytes ≡ writeOf d pool
+  pub write-good : judged ≡ good → {n : ℕ} {bytes : List ℕ} → outcome (done n) bytes ≡ outcome (done (length (bytesOf d))) (pad longestFile (bytesOf d))
+      → outcome (done n) bytes ≡ writeOf d pool
   unfolding writeOf
   write-good e w = rw (sym j ∙ e) w

@@ -3,46 +3,35 @@ use mathlib.Core.List.{List}
 use Prim.Native.Nat.{ℕ}
 use lib.Dec.{eqb}
 use lib.ListN.{length}
+use Rattle.lists.specs.All.{allAtMost}
 use Rattle.lists.specs.Pool.{pad}
-use Rattle.constraint.specs.declared.check.Checked.{Checked}
-use Rattle.constraint.specs.declared.check.Checked.the-variants as checked
-use Rattle.constraint.specs.declared.refusal.Refusal.the-variants as refusal
-use Rattle.day_file.specs.Day.{Day, countsKeep, lengthsKeep, levelsRise, lastLevel, allAtMost, rowsJudged}
-use Rattle.day_file.specs.File.{bytesOf}
-use Rattle.day_file.specs.Calls.{unless, andThen}
+use Rattle.constraint.specs.Told.{Told, done, Verdict, good, refusalTells, unless, andThen, Outcome, outcome, judged}
+use Rattle.day_lists.specs.Levels.{levelsRise, lastLevel}
+use Rattle.day_file.specs.Day.{Day, countsKeep, lengthsKeep, dayRowsJudged}
+use Rattle.day_file.specs.File.{bytesOf, longestFile}
 use Rattle.day_writer.specs.declared.write.Written.{Written}
 use Rattle.day_writer.specs.declared.write.Written.the-variants as written
 
--- the longest file: '26,827 bytes for a file to be written'
-abbrev pub longest : ℕ
-longest = 26827
-
--- a day's lists: '3, 4, 5, 13'
-unfoldable pub listsJudged : Day → Checked
+-- a day's lists: 3, 4, 5, 13
+unfoldable pub listsJudged : Day → Verdict
 listsJudged d =
-    unless (levelsRise (d .lists .levels)) refusal.Levels
-    (unless (allAtMost (lastLevel (d .lists .levels)) (d .lists .preferences)) refusal.Preference
-    (andThen (rowsJudged d) (unless (allAtMost 1 (d .lists .optional)) refusal.Optional checked.Good)))
+    unless (levelsRise (d .lists .levels)) 3
+    (unless (allAtMost (lastLevel (d .lists .levels)) (d .lists .preferences)) 4
+    (andThen (dayRowsJudged d) (unless (allAtMost 1 (d .lists .optional)) 13 good)))
 
--- '1, 2, 3, 4, 5, 13, lowest number first', for a pool of so many bytes
-unfoldable pub dayJudged : Day → ℕ → Checked
+-- 'Lowest number first among those a call can meet': 1, 2, 3, 4, 5, 13, for a pool of so many bytes
+unfoldable pub dayJudged : Day → ℕ → Verdict
 dayJudged d room =
-    unless (countsKeep (d .counts)) refusal.Count
-    (unless (lengthsKeep (d .counts) (d .lists)) refusal.Length
-    (unless (eqb room longest) refusal.Length (listsJudged d)))
+    unless (countsKeep (d .counts)) 1
+    (unless (lengthsKeep (d .counts) (d .lists)) 2
+    (unless (eqb room longestFile) 2 (listsJudged d)))
 
--- what a writer answers and leaves in its pool
-pub record Writing : Type 0 where
-  pub answer : Written
-  pub pool : List ℕ
-
-abbrev pub writing : Written → List ℕ → Writing
-writing answer pool = record { answer = answer; pool = pool }
+-- what a writer's answer tells: how many bytes of the pool the file takes, or 01's number
+abbrev pub writtenTells : Written → Told ℕ
+writtenTells (written.Bytes size) = done size
+writtenTells (written.Refused why) = refusalTells why
 
 -- how many bytes, the pool zero past them; or a number and the pool untouched
-abbrev pub writingBy : Checked → Day → List ℕ → Writing
-writingBy checked.Good d pool = writing (written.Bytes (length (bytesOf d))) (pad longest (bytesOf d))
-writingBy (checked.Refused why) d pool = writing (written.Refused why) pool
-
-unfoldable pub writeOf : Day → List ℕ → Writing
-writeOf d pool = writingBy (dayJudged d (length pool)) d pool
+unfoldable pub writeOf : Day → List ℕ → Outcome ℕ (List ℕ)
+writeOf d pool =
+    judged (dayJudged d (length pool)) pool (outcome (done (length (bytesOf d))) (pad longestFile (bytesOf d)))

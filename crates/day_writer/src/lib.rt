@@ -1,6 +1,5 @@
 // The writer of day files: a day's counts and lists to bytes.
 
-mod judge;
 mod put;
 mod word;
 pub mod write;

@@ -6,22 +6,12 @@ ghost use mathlib.Core.Path.{_≡_};
 ghost use mathlib.Core.Bool.{true};
 ghost use mathlib.Core.List.{[], _∷_, _++_};
 ghost use Prim.Native.Nat.{ℕ, _+_, _*_, _-_, _/_, _%_, _<_, _≤_};
-ghost use lib.ListN.{length, getD, replicate};
+ghost use lib.ListN.{length, getD};
 ghost use lib.Seq.{sets};
 ghost use Rattle.lists.specs.Flat.{joinBelow};
 ghost use Rattle.day_file.specs.Day.{countsKeep};
-ghost use Rattle.day_file.specs.File.{word, headBytes, choiceBytes, rowBytes, placesOf, BytesHold};
-
-// A pool with every byte zero.
-pub(crate) fn clear(pool: &mut [u8])
-    ensures { λ _. ⌜ now (pool .exit) ≡ replicate (length (now (pool .entry))) 0 ⌝ }
-{
-    let mut i = 0;
-    while i < pool.len() {
-        pool[i] = 0;
-        i += 1;
-    }
-}
+ghost use Rattle.day_file.specs.File.{word, headBytes, choiceBytes, rowBytes, placesOf};
+ghost use Rattle.day_writer.specs.steps.Held.{BytesHold};
 
 // The length of a file with these counts, without its first four bytes.
 fn rest_of(counts: DayCounts) -> usize

@@ -1,11 +1,12 @@
 // Numbers of two bytes, big-endian, and rows of six, put into a pool.
 use constraint::row::Row;
-use day_file::word::turn;
+use day_file::word::flip_sign_bit;
 ghost use mathlib.Core.Path.{_≡_};
 ghost use Prim.Native.Nat.{_+_, _<_};
 ghost use lib.ListN.{length};
 ghost use lib.Seq.{sets};
-ghost use Rattle.day_file.specs.File.{word, rowBytes, BytesHold};
+ghost use Rattle.day_file.specs.File.{word, rowBytes};
+ghost use Rattle.day_writer.specs.steps.Held.{BytesHold};
 
 // The number's two bytes, put from a place on.
 pub(crate) fn put_word(pool: &mut [u8], at: usize, v: u16)
@@ -25,5 +26,5 @@ pub(crate) fn put_row(pool: &mut [u8], at: usize, number: u64)
     pool[at] = row.kind as u8;
     pool[at + 1] = row.left as u8;
     put_word(pool, at + 2, row.right);
-    put_word(pool, at + 4, turn(row.extra));
+    put_word(pool, at + 4, flip_sign_bit(row.extra));
 }

@@ -1,8 +1,4 @@
 // Writing a day file: the day is judged first, then its bytes are put into the lent pool.
-use super::judge::levels_rise;
-use super::judge::optional_keep;
-use super::judge::preferences_keep;
-use super::put::clear;
 use super::put::put_choices;
 use super::put::put_head;
 use super::put::put_rows;
@@ -11,17 +7,23 @@ use constraint::check::Checked;
 use constraint::check::Takes;
 use constraint::refusal::Refusal;
 use day_file::counts::DayCounts;
+use day_file::word::LONGEST_FILE;
+use day_lists::flags_fit;
+use day_lists::last_level;
+use day_lists::levels_rise;
+use day_lists::preferences_keep;
+use pools::clear_bytes;
 ghost use mathlib.Core.Path.{_≡_};
 ghost use mathlib.Core.Bool.{true};
 ghost use mathlib.Core.List.{List};
-ghost use Prim.Native.Nat.{ℕ, _≤_};
+ghost use Prim.Native.Nat.{ℕ};
 ghost use lib.ListN.{length};
 ghost use Rattle.lists.specs.Pool.{pad};
-ghost use Rattle.constraint.specs.declared.check.Checked.the-variants as checked;
-ghost use Rattle.day_file.specs.Day.{parts, day, countsKeep, lengthsKeep, rowsJudged};
-ghost use Rattle.day_file.specs.File.{bytesOf};
-ghost use Rattle.day_writer.specs.Calls.{listsJudged, dayJudged, longest, writing, writeOf};
-ghost use Rattle.day_writer.specs.declared.write.Written.the-variants as written;
+ghost use Rattle.constraint.specs.Check.{checkedTells};
+ghost use Rattle.constraint.specs.Told.{done, good, outcome};
+ghost use Rattle.day_file.specs.Day.{parts, day, countsKeep, lengthsKeep, dayRowsJudged};
+ghost use Rattle.day_file.specs.File.{bytesOf, longestFile};
+ghost use Rattle.day_writer.specs.Calls.{listsJudged, dayJudged, writtenTells, writeOf};
 
 // What writing answers: how many bytes of the pool the file takes, or why there is none.
 pub enum Written {
@@ -60,7 +62,7 @@ fn lengths_keep(
     rows.len() == counts.rows
 }
 
-// '1, 2, 3, 4, 5, 13, lowest number first', with no pool touched.
+// Numbers 1, 2, 3, 4, 5, 13, 'Lowest number first', with no pool touched.
 fn judge_day(
     counts: DayCounts,
     mins: &[u16],
@@ -71,7 +73,7 @@ fn judge_day(
     rows: &[u64],
     room: usize,
 ) -> Checked
-    ensures { λ r. ⌜ r ≡ dayJudged (day counts (parts (now (mins .entry)) (now (maxs .entry)) (now (optional .entry)) (now (levels .entry)) (now (preferences .entry)) (now (rows .entry)))) room ⌝ }
+    ensures { λ r. ⌜ checkedTells r ≡ dayJudged (day counts (parts (now (mins .entry)) (now (maxs .entry)) (now (optional .entry)) (now (levels .entry)) (now (preferences .entry)) (now (rows .entry)))) room ⌝ }
 {
     if !counts.in_range() {
         return Checked::Refused(Refusal::Count);
@@ -79,13 +81,13 @@ fn judge_day(
     if !lengths_keep(counts, mins, maxs, optional, levels, preferences, rows) {
         return Checked::Refused(Refusal::Length);
     }
-    if room != 26827 {
+    if room != LONGEST_FILE {
         return Checked::Refused(Refusal::Length);
     }
     judge_lists(counts, optional, levels, preferences, rows)
 }
 
-// '3, 4, 5, 13', of lists that are as long as their counts give.
+// Numbers 3, 4, 5, 13, of lists that are as long as their counts give.
 fn judge_lists(
     counts: DayCounts,
     optional: &[u8],
@@ -93,21 +95,19 @@ fn judge_lists(
     preferences: &[u16],
     rows: &[u64],
 ) -> Checked
-    requires { ⌜ 1 ≤ length (now levels) ⌝ }
-    ensures { λ r. ⌜ ((mins maxs : List ℕ) → r ≡ listsJudged (day counts (parts mins maxs (now (optional .entry)) (now (levels .entry)) (now (preferences .entry)) (now (rows .entry))))) ⌝ }
+    ensures { λ r. ⌜ ((mins maxs : List ℕ) → checkedTells r ≡ listsJudged (day counts (parts mins maxs (now (optional .entry)) (now (levels .entry)) (now (preferences .entry)) (now (rows .entry))))) ⌝ }
 {
     if !levels_rise(levels) {
         return Checked::Refused(Refusal::Levels);
     }
-    let last = levels.len() - 1;
-    if !preferences_keep(levels[last], preferences) {
+    if !preferences_keep(last_level(levels), preferences) {
         return Checked::Refused(Refusal::Preference);
     }
-    let judged = constraint::check::check_each_row(counts.for_rows(), Takes::All, rows);
+    let judged = constraint::check::check_each_row(counts.for_rows(), Takes::Given, rows);
     if let Checked::Refused(why) = judged {
         return Checked::Refused(why);
     }
-    if !optional_keep(optional) {
+    if !flags_fit(optional) {
         return Checked::Refused(Refusal::Optional);
     }
     Checked::Good
@@ -124,10 +124,10 @@ fn put_day(
     rows: &[u64],
     pool: &mut [u8],
 ) -> usize
-    requires { ⌜ countsKeep counts ≡ true ⌝ ∗ ⌜ lengthsKeep counts (parts (now mins) (now maxs) (now optional) (now levels) (now preferences) (now rows)) ≡ true ⌝ ∗ ⌜ rowsJudged (day counts (parts (now mins) (now maxs) (now optional) (now levels) (now preferences) (now rows))) ≡ checked.Good ⌝ ∗ ⌜ length (now pool) ≡ longest ⌝ }
-    ensures { λ r. ⌜ writing (written.Bytes r) (now (pool .exit)) ≡ writing (written.Bytes (length (bytesOf (day counts (parts (now (mins .entry)) (now (maxs .entry)) (now (optional .entry)) (now (levels .entry)) (now (preferences .entry)) (now (rows .entry))))))) (pad longest (bytesOf (day counts (parts (now (mins .entry)) (now (maxs .entry)) (now (optional .entry)) (now (levels .entry)) (now (preferences .entry)) (now (rows .entry)))))) ⌝ }
+    requires { ⌜ countsKeep counts ≡ true ⌝ ∗ ⌜ lengthsKeep counts (parts (now mins) (now maxs) (now optional) (now levels) (now preferences) (now rows)) ≡ true ⌝ ∗ ⌜ dayRowsJudged (day counts (parts (now mins) (now maxs) (now optional) (now levels) (now preferences) (now rows))) ≡ good ⌝ ∗ ⌜ length (now pool) ≡ longestFile ⌝ }
+    ensures { λ r. ⌜ outcome (done r) (now (pool .exit)) ≡ outcome (done (length (bytesOf (day counts (parts (now (mins .entry)) (now (maxs .entry)) (now (optional .entry)) (now (levels .entry)) (now (preferences .entry)) (now (rows .entry))))))) (pad longestFile (bytesOf (day counts (parts (now (mins .entry)) (now (maxs .entry)) (now (optional .entry)) (now (levels .entry)) (now (preferences .entry)) (now (rows .entry)))))) ⌝ }
 {
-    clear(pool);
+    clear_bytes(pool);
     put_head(pool, counts);
     let levels_at = put_choices(pool, counts.choices, mins, maxs, optional);
     let preferences_at = put_words(pool, levels_at, levels);
@@ -146,7 +146,7 @@ pub fn write_day(
     rows: &[u64],
     pool: &mut [u8],
 ) -> Written
-    ensures { λ r. ⌜ writing r (now (pool .exit)) ≡ writeOf (day counts (parts (now (mins .entry)) (now (maxs .entry)) (now (optional .entry)) (now (levels .entry)) (now (preferences .entry)) (now (rows .entry)))) (now (pool .entry)) ⌝ }
+    ensures { λ r. ⌜ outcome (writtenTells r) (now (pool .exit)) ≡ writeOf (day counts (parts (now (mins .entry)) (now (maxs .entry)) (now (optional .entry)) (now (levels .entry)) (now (preferences .entry)) (now (rows .entry)))) (now (pool .entry)) ⌝ }
 {
     let judged = judge_day(
         counts,

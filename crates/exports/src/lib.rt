@@ -7,51 +7,27 @@ use day_file::read::Read;
 use day_file::read::read_day;
 use listing::list_plans::Listed;
 use listing::list_plans::list_plans;
-use scheduling::feasible::is_feasible;
 use scheduling::plan_check::PlanChecked;
 use scheduling::plan_check::check_plan;
 ghost use mathlib.Core.Path.{_≡_};
 ghost use Rattle.scheduling.specs.Day.{dayOf};
-ghost use Rattle.scheduling.specs.Feasible.{isFeasible};
-ghost use Rattle.scheduling.specs.Check.{planCheckOf};
+ghost use Rattle.scheduling.specs.Check.{planCheckedTells, planCheckOf};
 ghost use Rattle.day_file.specs.Day.{parts};
-ghost use Rattle.day_file.specs.Calls.{readOf};
-ghost use Rattle.constraints.specs.Reduction.{tells, done, reduceOf};
+ghost use Rattle.day_file.specs.Calls.{readTells, readOf};
+ghost use Rattle.constraint.specs.Told.{done};
+ghost use Rattle.constraints.specs.Reduction.{reducedTells, reduceOf};
 ghost use Rattle.listing.specs.Outcome.{listedTells, listOf};
-ghost use Rattle.exports.specs.Answers.{countsOf, planNumber, readNumber, told, numbered, reducedNumber, toldRows, numberedRows, listedNumber, listedCounts, toldPlans, numberedPlans};
+ghost use Rattle.exports.specs.Answers.{countsOf, numbered, byNumber, planNumber, readNumber, reducedNumber, listedNumber, listedCounts, plansByNumber};
 
 // The plan check's answer as a number: 0 not feasible, 1 feasible, 100 more than a refusal's number.
 fn plan_number(answer: PlanChecked) -> u16
-    ensures { λ r. ⌜ r ≡ planNumber answer ⌝ }
+    ensures { λ r. ⌜ r ≡ planNumber (planCheckedTells answer) ⌝ }
 {
     match answer {
         PlanChecked::Infeasible => 0,
         PlanChecked::Feasible => 1,
         PlanChecked::Refused(why) => 100 + why.number() as u16,
     }
-}
-
-// Whether a plan is feasible, on a day that the caller has judged.
-#[no_mangle]
-pub extern "C" fn thalluscrest_is_feasible(
-    choices: usize,
-    slots: usize,
-    choosers: usize,
-    mins: &[u16],
-    maxs: &[u16],
-    optional: &[u8],
-    rows: &[u64],
-    plan: &[u8],
-) -> bool
-    ensures { λ r. ⌜ r ≡ isFeasible (dayOf (countsOf choices slots choosers (now (rows .entry))) (now (mins .entry)) (now (maxs .entry)) (now (optional .entry)) (now (rows .entry))) (now (plan .entry)) ⌝ }
-{
-    let counts = Counts {
-        choices,
-        slots,
-        choosers,
-        rows: rows.len(),
-    };
-    is_feasible(counts, mins, maxs, optional, rows, plan)
 }
 
 // The plan check on any input: 0 not feasible, 1 feasible, 100 more than the number of a refusal.
@@ -79,7 +55,7 @@ pub extern "C" fn thalluscrest_check_plan(
 
 // The reader's answer as a number: 0 for a day, which stands in the pools, else the refusal's number.
 fn read_number(answer: Read) -> u8
-    ensures { λ r. ⌜ r ≡ readNumber answer ⌝ }
+    ensures { λ r. ⌜ r ≡ readNumber (readTells answer) ⌝ }
 {
     match answer {
         Read::Day(_) => 0,
@@ -98,14 +74,14 @@ pub extern "C" fn thalluscrest_read_day(
     preferences: &mut [u16],
     rows: &mut [u64],
 ) -> u8
-    ensures { λ r. ⌜ told r (parts (now (mins .exit)) (now (maxs .exit)) (now (optional .exit)) (now (levels .exit)) (now (preferences .exit)) (now (rows .exit))) ≡ numbered (readOf (now (file .entry)) (parts (now (mins .entry)) (now (maxs .entry)) (now (optional .entry)) (now (levels .entry)) (now (preferences .entry)) (now (rows .entry)))) ⌝ }
+    ensures { λ r. ⌜ numbered r (parts (now (mins .exit)) (now (maxs .exit)) (now (optional .exit)) (now (levels .exit)) (now (preferences .exit)) (now (rows .exit))) ≡ byNumber readNumber (readOf (now (file .entry)) (parts (now (mins .entry)) (now (maxs .entry)) (now (optional .entry)) (now (levels .entry)) (now (preferences .entry)) (now (rows .entry)))) ⌝ }
 {
     read_number(read_day(file, mins, maxs, optional, levels, preferences, rows))
 }
 
 // The number of rows of a reduction, or 65,536 for a clash, after which no row is asked for.
 fn rows_number(reduction: Reduction) -> u64
-    ensures { λ r. ⌜ r ≡ reducedNumber (done (reduction .count) (reduction .clash)) ⌝ }
+    ensures { λ r. ⌜ r ≡ reducedNumber (done reduction) ⌝ }
 {
     if reduction.clash {
         return 65_536;
@@ -115,7 +91,7 @@ fn rows_number(reduction: Reduction) -> u64
 
 // The reduction's answer as a number: the rows, 65,536 for a clash, 100,000 more than a refusal's number.
 fn reduced_number(answer: Reduced) -> u64
-    ensures { λ r. ⌜ r ≡ reducedNumber (tells answer) ⌝ }
+    ensures { λ r. ⌜ r ≡ reducedNumber (reducedTells answer) ⌝ }
 {
     match answer {
         Reduced::Rows(reduction) => rows_number(reduction),
@@ -132,7 +108,7 @@ pub extern "C" fn thalluscrest_reduce(
     rows: &[u64],
     pool: &mut [u64],
 ) -> u64
-    ensures { λ r. ⌜ toldRows r (now (pool .exit)) ≡ numberedRows (reduceOf (countsOf choices slots choosers (now (rows .entry))) (now (rows .entry)) (now (pool .entry))) ⌝ }
+    ensures { λ r. ⌜ numbered r (now (pool .exit)) ≡ byNumber reducedNumber (reduceOf (countsOf choices slots choosers (now (rows .entry))) (now (rows .entry)) (now (pool .entry))) ⌝ }
 {
     let counts = Counts {
         choices,
@@ -177,7 +153,7 @@ pub extern "C" fn thalluscrest_list_plans(
     buffer: &mut [u8],
     numbers: &mut [u64; 3],
 ) -> u16
-    ensures { λ r. ⌜ toldPlans r (now (numbers .exit)) (now (buffer .exit)) ≡ numberedPlans (now (numbers .entry)) (listOf (dayOf (countsOf choices slots choosers (now (rows .entry))) (now (mins .entry)) (now (maxs .entry)) (now (optional .entry)) (now (rows .entry))) first room budget (now (buffer .entry))) ⌝ }
+    ensures { λ r. ⌜ numbered r (now (numbers .exit), now (buffer .exit)) ≡ plansByNumber (now (numbers .entry)) (listOf (dayOf (countsOf choices slots choosers (now (rows .entry))) (now (mins .entry)) (now (maxs .entry)) (now (optional .entry)) (now (rows .entry))) first room budget (now (buffer .entry))) ⌝ }
 {
     let counts = Counts {
         choices,

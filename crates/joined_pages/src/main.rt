@@ -1,4 +1,4 @@
-// 'A realistic example day with over a thousand plans lists its first page at once, and pages joined equal the whole': the skills day, page by page.
+// The pages of an example day joined are its whole list: the skills day with over a thousand plans, page by page.
 use cases::BLANK;
 use cases::fill;
 use cases::first_bytes;

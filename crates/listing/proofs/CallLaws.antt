@@ -1,22 +1,20 @@
 -- The call: both runs from the empty start, and what they make of the answer and the buffer.
-use mathlib.Core.Path.{_≡_, refl, sym, ap, ap₂, _∙_}
-use mathlib.Core.Bool.{Bool, true, false, cond}
-use mathlib.Core.List.{List, [], flatten}
-use Prim.Native.Nat.{ℕ, zero, _+_, _-_, _≤_, _<_, _^_, min}
+use mathlib.Core.Path.{_≡_, sym, ap, _∙_}
+use mathlib.Core.Bool.{Bool, true, false}
+use mathlib.Core.List.{List, flatten}
+use Prim.Native.Nat.{ℕ, _+_, _-_, _≤_, _<_, _^_, min}
 use native.Mathlib.Nat.{zero-add, sub-zero}
 use native.Mathlib.Omega.{arith}
-use borrow.Author.Tests.{leb-true}
 use lib.Dec.{leb}
 use lib.ListN.{length, take, getD, replicate, length-replicate}
 use lib.Seq.{sets}
-use Rattle.constraint.specs.Refusal.{numberOf, carriedBy}
-use Rattle.constraint.specs.declared.check.Checked.the-variants as checked
-use Rattle.constraint.specs.declared.refusal.Refusal.{Refusal}
-use Rattle.scheduling.specs.Day.{Day}
+use Rattle.constraint.specs.Told.{done, refused, good, outcome}
+use Rattle.constraint.specs.declared.check.Counts.{Counts}
+use Rattle.scheduling.specs.Day.{Day, dayOf}
 use Rattle.listing.specs.Placements.{plans, page, total, nodes}
-use Rattle.listing.specs.Outcome.{plansTold, turnsTold, refusedTold, outcome, judgeOf, listedOf, listOf}
-use Rattle.listing.specs.Walk.{nodesFrom, plansFrom, putPlans}
-use Rattle.listing.specs.Steps.{Walks, Counted, Shaped, Lists, Added, Listing, Judged}
+use Rattle.listing.specs.Outcome.{plansTold, turnsTold, judgeOf, listedOf, listOf}
+use Rattle.listing.specs.steps.Walk.{numbersAsked, countsOf, nodesFrom, plansFrom}
+use Rattle.listing.specs.steps.Runs.{Walks, Counted, Lists, Listing, Judged}
 use Rattle.listing.proofs.PageLaws.{put-page, page-length}
 use Rattle.listing.proofs.Members.{sized-plans}
 use Rattle.listing.proofs.WholeLaws.{zeros-at, plans-all, nodes-all, total-within}
@@ -82,7 +80,7 @@ module _ (day : Day) (room : ℕ) (buffer : List ℕ) (j : Judged day room buffe
     holds-is : holds ≡ leb (nodes day) budget
     holds-is = c .answer ∙ ap (λ (n : ℕ). leb n budget) whole-nodes
 
-    pub turns-told : (first : ℕ) → holds ≡ false → outcome turnsTold buffer ≡ listedOf day first room budget buffer
+    pub turns-told : (first : ℕ) → holds ≡ false → outcome (done turnsTold) buffer ≡ listedOf day first room budget buffer
     unfolding listedOf
     turns-told first f = rw (sym holds-is ∙ f)
 
@@ -90,29 +88,40 @@ module _ (day : Day) (room : ℕ) (buffer : List ℕ) (j : Judged day room buffe
       spent-is : budget ≡ nodes day + left
       spent-is = c .spent t ∙ ap (λ (n : ℕ). n + left) whole-nodes
 
-      pub left-within : left ≤ budget
-      left-within = omega (arith, spent-is)
-
       pub total-fits : budget < 2 ^ 64 → total day < 2 ^ 64
       unfolding total
       total-fits h = omega (arith, total-within day (j .few-slots), spent-is)
 
-      pub plans-told : (first : ℕ) {written all : ℕ} {buffer' : List ℕ} → all ≡ total day → written ≡ min room (all - first)
-          → buffer' ≡ sets buffer 0 (flatten (page day first room)) → outcome (plansTold written all (budget - left)) buffer' ≡ listedOf day first room budget buffer
+      pub plans-told : (first : ℕ) {written all visited : ℕ} {buffer' : List ℕ} → visited ≡ budget - left → all ≡ total day → written ≡ min room (all - first)
+          → buffer' ≡ sets buffer 0 (flatten (page day first room)) → outcome (done (plansTold written all visited)) buffer' ≡ listedOf day first room budget buffer
       unfolding listedOf
-      plans-told first {written} {all} {buffer'} a w b =
-          let n : budget - left ≡ nodes day = omega (arith, spent-is) in
+      plans-told first {written} {all} {visited} {buffer'} v a w b =
+          let n : visited ≡ nodes day = omega (arith, v, spent-is) in
           let l : written ≡ length (page day first room) = w ∙ page-told day first room a in
           rw (sym holds-is ∙ t, a, b, n, l)
+
+-- ---- the second run with its numbers in one array
+
+module _ (counts : Counts) (mins maxs optional rows : List ℕ) (first room : ℕ) (buffer : List ℕ) (j : Judged (dayOf counts mins maxs optional rows) room buffer)
+    {asked : List ℕ} (a : asked ≡ numbersAsked counts first room) (plan sums : List ℕ) (p : length plan ≡ counts .choices) (e : sums ≡ replicate 24 0) where
+  pub asked-requires : total (dayOf counts mins maxs optional rows) < 2 ^ 64
+      → Lists (dayOf (countsOf asked) mins maxs optional rows) (getD asked 5 0) 0 plan sums (plansFrom (dayOf (countsOf asked) mins maxs optional rows) (length plan - 0) (take 0 plan) sums) 0 buffer
+  unfolding numbersAsked
+  asked-requires h = rw a (list-requires (dayOf counts mins maxs optional rows) room buffer j plan sums p e h)
+
+  pub asked-answers : {total' : ℕ} {plan' sums' buffer' : List ℕ}
+      → Listing (getD asked 4 0) (getD asked 5 0) 0 (plansFrom (dayOf (countsOf asked) mins maxs optional rows) (length plan - 0) (take 0 plan) sums) plan plan' sums sums' 0 total' buffer buffer'
+      → (total' ≡ total (dayOf counts mins maxs optional rows)) × (buffer' ≡ sets buffer 0 (flatten (page (dayOf counts mins maxs optional rows) first room)))
+  unfolding numbersAsked
+  asked-answers g = list-answers (dayOf counts mins maxs optional rows) room buffer j plan sums p e (rw a at g)
 
 -- ---- the refusals
 
 module _ (day : Day) (first room budget : ℕ) (buffer : List ℕ) where
-  pub refused-told : {why : Refusal} → judgeOf day room (length buffer) ≡ checked.Refused why
-      → outcome (refusedTold (numberOf why) (carriedBy why)) buffer ≡ listOf day first room budget buffer
+  pub refused-told : {number : ℕ} {carried : List ℕ} → refused number carried ≡ judgeOf day room (length buffer) → outcome (refused number carried) buffer ≡ listOf day first room budget buffer
   unfolding listOf
-  refused-told h = rw h
+  refused-told h = rw (sym h)
 
-  pub good-told : judgeOf day room (length buffer) ≡ checked.Good → listedOf day first room budget buffer ≡ listOf day first room budget buffer
+  pub good-told : judgeOf day room (length buffer) ≡ good → listedOf day first room budget buffer ≡ listOf day first room budget buffer
   unfolding listOf
   good-told h = rw h

@@ -1,7 +1,7 @@
 -- The first run: a law for each way through its functions.
-use mathlib.Core.Path.{_≡_, refl, sym, ap, _∙_}
-use mathlib.Core.Bool.{Bool, true, false, cond, false≢true}
-use mathlib.Core.List.{List, [], _∷_}
+use mathlib.Core.Path.{_≡_, refl, sym, _∙_}
+use mathlib.Core.Bool.{Bool, true, false, false≢true}
+use mathlib.Core.List.{List}
 use Prim.Native.Nat.{ℕ, zero, suc, _+_, _-_, _≤_, _<_}
 use native.Mathlib.Omega.{arith}
 use borrow.Author.Tests.{le-leb, lt-leb, leb-true, leb-false}
@@ -9,8 +9,8 @@ use lib.Arith.{lt-of-le-ne}
 use lib.Dec.{leb}
 use lib.ListN.{length, getD, set}
 use Rattle.lists.specs.Keep.{sumOver}
-use Rattle.listing.specs.Walk.{placesFrom, placeFits, sumsWith, nodesFrom, nodesAt, nodesPast}
-use Rattle.listing.specs.Steps.{Counted}
+use Rattle.listing.specs.steps.Walk.{nodesFrom, nodesAt, nodesPast}
+use Rattle.listing.specs.steps.Runs.{Counted}
 use Rattle.listing.proofs.PlaceLaws.{places-start, places-next, places-last, slot-fits, slot-over, omission-fits, omission-out, sums-slot, sums-omission, sums-back}
 
 -- ---- how spending composes

@@ -8,19 +8,17 @@ use native.Mathlib.Omega.{arith}
 use borrow.Author.Tests.{eq-eqb, ne-eqb, eqb-true}
 use lib.Dec.{eqb}
 use lib.ListN.{length}
-use Rattle.lists.specs.All.{allOf}
+use Rattle.lists.specs.All.{allAtMost}
 use Rattle.lists.proofs.Below.{and-left, and-right}
-use Rattle.constraint.specs.Check.{countsInRange, rowsOf}
+use Rattle.constraint.specs.Check.{countsInRange, rowsJudged}
+use Rattle.constraint.specs.Told.{refused, good, refuse}
 use Rattle.constraint.specs.declared.check.Takes.the-variants.{Scheduling}
-use Rattle.constraint.specs.declared.check.Checked.{Checked}
-use Rattle.constraint.specs.declared.check.Checked.the-variants as checked
-use Rattle.constraint.specs.declared.refusal.Refusal.{Refusal}
-use Rattle.constraint.specs.declared.refusal.Refusal.the-variants as refusal
+use Rattle.constraint.proofs.ToldLaws.{unless-done}
 use Rattle.constraint.proofs.CountLaws.{Within, within}
 use Rattle.scheduling.specs.Day.{Day}
-use Rattle.scheduling.specs.Check.{flagFits, orElse}
-use Rattle.listing.specs.Outcome.{lengthsFit, flagsOf, judgeOf}
-use Rattle.listing.specs.Steps.{Judged}
+use Rattle.scheduling.specs.Check.{flagsJudged}
+use Rattle.listing.specs.Outcome.{lengthsFit, judgeOf}
+use Rattle.listing.specs.steps.Runs.{Judged}
 
 -- ---- the buffer's length
 
@@ -64,37 +62,33 @@ module _ (day : Day) (room size : ℕ) where
 
   -- ---- the refusals in their order
 
-  pub judge-count : countsInRange (day .counts) Scheduling ≡ false → checked.Refused refusal.Count ≡ judgeOf day room size
+  pub judge-count : countsInRange (day .counts) Scheduling ≡ false → refuse 1 ≡ judgeOf day room size
   unfolding judgeOf
   judge-count h = rw h
 
   module _ (c : countsInRange (day .counts) Scheduling ≡ true) where
-    pub judge-length : lengthsFit day room size ≡ false → checked.Refused refusal.Length ≡ judgeOf day room size
+    pub judge-length : lengthsFit day room size ≡ false → refuse 2 ≡ judgeOf day room size
     unfolding judgeOf
     judge-length h = rw (c, h)
 
     module _ (l : lengthsFit day room size ≡ true) where
-      pub judge-row : {why : Refusal} → rowsOf (day .counts) Scheduling (day .rows) ≡ checked.Refused why → checked.Refused why ≡ judgeOf day room size
+      pub judge-row : {number : ℕ} {carried : List ℕ} → refused number carried ≡ rowsJudged (day .counts) Scheduling (day .rows) → refused number carried ≡ judgeOf day room size
       unfolding judgeOf
-      judge-row r = rw (c, l, r)
+      judge-row r = rw (c, l, sym r)
 
-      module _ (r : rowsOf (day .counts) Scheduling (day .rows) ≡ checked.Good) where
-        pub judge-flag : allOf flagFits (day .optional) ≡ false → checked.Refused refusal.Optional ≡ judgeOf day room size
-        unfolding judgeOf flagsOf
-        judge-flag f = rw (c, l, r, f)
+      module _ (r : good ≡ rowsJudged (day .counts) Scheduling (day .rows)) where
+        pub judge-flag : allAtMost 1 (day .optional) ≡ false → refuse 13 ≡ judgeOf day room size
+        unfolding judgeOf flagsJudged
+        judge-flag f = rw (c, l, sym r, f)
 
-        pub judge-good : allOf flagFits (day .optional) ≡ true → checked.Good ≡ judgeOf day room size
-        unfolding judgeOf flagsOf
-        judge-good f = rw (c, l, r, f)
+        pub judge-good : allAtMost 1 (day .optional) ≡ true → good ≡ judgeOf day room size
+        unfolding judgeOf flagsJudged
+        judge-good f = rw (c, l, sym r, f)
 
 -- ---- what isn't refused
 
-good-first : (b : Bool) (next : Checked) (why : Refusal) → cond b next (checked.Refused why) ≡ checked.Good → (b ≡ true) × (next ≡ checked.Good)
-good-first true next why h = (refl, h)
-good-first false next why h = let z : _≡_ {A = ℕ} 0 1 = cc in absurd (omega arith)
-
 module _ (day : Day) (room : ℕ) (buffer : List ℕ) where
-  pub judged : checked.Good ≡ judgeOf day room (length buffer) → Judged day room buffer
+  pub judged : good ≡ judgeOf day room (length buffer) → Judged day room buffer
   unfolding judgeOf lengthsFit
   judged h =
       let m = eqb (length (day .mins)) (day .counts .choices) in
@@ -102,8 +96,8 @@ module _ (day : Day) (room : ℕ) (buffer : List ℕ) where
       let o = eqb (length (day .optional)) (day .counts .choices) in
       let r = eqb (length (day .rows)) (day .counts .rows) in
       let b = eqb (length buffer) (room * day .counts .choices) in
-      let first = good-first _ _ _ (sym h) in
-      let second = good-first (m && x && o && r && b) _ _ (first .1) in
+      let first = unless-done (countsInRange (day .counts) Scheduling) 1 _ (sym h) in
+      let second = unless-done (m && x && o && r && b) 2 _ (first .1) in
       let four = and-left (m && x && o && r) b (second .0) in
       let three = and-left (m && x && o) r four in
       let two = and-left (m && x) o three in

@@ -5,16 +5,61 @@ use mathlib.Core.List.{List, [], _∷_, _++_, append-nil, flatMap}
 use Prim.Native.Nat.{ℕ, zero, suc, _+_, _-_, _≤_, _<_, _^_}
 use native.Mathlib.Numerals.{add-one}
 use native.Mathlib.Omega.{arith}
+use borrow.Author.Tests.{lt-ltb, le-ltb}
 use lib.Arith.{lt-of-le-ne}
-use lib.ListN.{length, getD, set, take, length-set, length-append}
+use lib.ListN.{length, set, take, length-set, length-append}
 use lib.Seq.{take-length, length-take-le, take-take, take-set-le, take-suc-set}
 use Rattle.scheduling.specs.Day.{Day}
-use Rattle.listing.specs.Walk.{placesFrom, placeFits, sumsWith, goesTo, sumsTo, ifFeasible, plansFrom, plansAt, plansPast}
-use Rattle.listing.specs.Steps.{Walks, Shaped, Lists, Added, Listing, Onward}
-use Rattle.listing.proofs.PlaceLaws.{places-start, places-next, places-last, slot-fits, slot-over, omission-fits, omission-out, sums-slot, sums-omission, walks-next, walks-slot, sums-back}
+use Rattle.listing.specs.steps.Walk.{placesFrom, placeOf, placeFits, nextOpen, sumsWith, sumsWithout, goesTo, sumsTo, ifFeasible, plansFrom, plansAt, plansLeft}
+use Rattle.listing.specs.steps.Runs.{Walks, Stands, Shaped, Lists, Added, Listing, Open}
+use Rattle.listing.proofs.PlaceLaws.{places-start, places-next, places-last, walks-next, walks-taken, sum-held, sums-left, open-within, open-next}
 use Rattle.listing.proofs.PageLaws.{none-added, added-more}
 
 -- ---- the plans, by the code's numbers
+
+module _ (day : Day) (n : ℕ) (start sums : List ℕ) where
+  -- the last so many places, and those from a slot on
+  left-past : (left : ℕ) → left ≤ day .counts .slots
+      → plansLeft day n start sums (suc left) ≡ flatMap (plansAt day n start sums) (placesFrom (day .counts .slots) (day .counts .slots - left))
+  unfolding plansLeft placeOf flatMap
+  left-past zero h =
+      let z : day .counts .slots - 0 ≡ day .counts .slots = omega arith in
+      rw (z, places-last (day .counts .slots), le-ltb (day .counts .slots) (day .counts .slots) (omega arith))
+  left-past (suc left) h =
+      let k : day .counts .slots - suc left < day .counts .slots = omega arith in
+      let e : day .counts .slots - suc left + 1 ≡ day .counts .slots - left = omega arith in
+      rw (places-next (day .counts .slots) (day .counts .slots - suc left) k, lt-ltb (day .counts .slots - suc left) (day .counts .slots) k, e)
+      (ap (λ (l : List (List ℕ)). plansAt day n start sums (day .counts .slots - suc left) ++ l) (left-past left (omega arith)))
+
+  -- one place, and those after it
+  left-next : (left : ℕ) → 0 < left
+      → plansLeft day n start sums left ≡ plansAt day n start sums (placeOf (day .counts .slots) (day .counts .slots + 1 - left)) ++ plansLeft day n start sums (left - 1)
+  unfolding plansLeft
+  left-next zero h = absurd (omega arith)
+  left-next (suc left) h =
+      let e : day .counts .slots + 1 - suc left ≡ day .counts .slots - left = omega arith in
+      let k : suc left - 1 ≡ left = omega arith in
+      rw (e, k)
+
+  module _ {choice : ℕ} (at : length start ≡ choice) where
+    -- a place that the next choice may take
+    plans-taken : (place : ℕ) → placeFits (day .counts .slots) (day .counts .choosers) (day .mins) (day .optional) sums choice place ≡ true
+        → plansAt day n start sums place ≡ plansFrom day n (start ++ (place ∷ [])) (sumsWith (day .counts .slots) (day .mins) sums choice place)
+    unfolding plansAt goesTo sumsTo
+    plans-taken place t = rw (at, t)
+
+    -- those before the next one that it may take add nothing
+    left-open : (left : ℕ)
+        → plansLeft day n start sums (nextOpen (day .counts .slots) (day .counts .choosers) (day .mins) (day .optional) sums choice left) ≡ plansLeft day n start sums left
+    unfolding plansLeft nextOpen plansAt goesTo
+    left-open zero = refl
+    left-open (suc left) = go (placeFits (day .counts .slots) (day .counts .choosers) (day .mins) (day .optional) sums choice (placeOf (day .counts .slots) (day .counts .slots - left))) refl (left-open left)
+      where
+        go : (b : Bool) → placeFits (day .counts .slots) (day .counts .choosers) (day .mins) (day .optional) sums choice (placeOf (day .counts .slots) (day .counts .slots - left)) ≡ b
+            → plansLeft day n start sums (nextOpen (day .counts .slots) (day .counts .choosers) (day .mins) (day .optional) sums choice left) ≡ plansLeft day n start sums left
+            → plansLeft day n start sums (cond b (suc left) (nextOpen (day .counts .slots) (day .counts .choosers) (day .mins) (day .optional) sums choice left)) ≡ plansLeft day n start sums (suc left)
+        go true t ih = refl
+        go false t ih = ih ∙ rw (at, t)
 
 module _ (day : Day) (plan sums : List ℕ) (choice : ℕ) where
   -- no choice is left
@@ -24,46 +69,15 @@ module _ (day : Day) (plan sums : List ℕ) (choice : ℕ) where
       let z : length plan - choice ≡ 0 = omega arith in
       rw (z, e) (ap (ifFeasible day) (take-length plan))
 
-  -- a choice is left
+  -- a choice is left: all the places
   plans-on : choice < length plan
-      → plansFrom day (length plan - choice) (take choice plan) sums ≡ plansPast day (length plan - (choice + 1)) (take choice plan) sums 0
-  unfolding plansFrom plansPast plansAt
+      → plansFrom day (length plan - choice) (take choice plan) sums ≡ plansLeft day (length plan - (choice + 1)) (take choice plan) sums (day .counts .slots + 1)
+  unfolding plansFrom plansAt
   plans-on h =
       let e : length plan - choice ≡ suc (length plan - (choice + 1)) = omega arith in
-      rw (e, places-start (day .counts .slots))
-
-module _ (day : Day) (n : ℕ) (start sums : List ℕ) {choice : ℕ} (at : length start ≡ choice) where
-  plans-next : (slot : ℕ) → slot < day .counts .slots → plansPast day n start sums slot ≡ plansAt day n start sums slot ++ plansPast day n start sums (slot + 1)
-  unfolding plansPast flatMap
-  plans-next slot h = rw (places-next (day .counts .slots) slot h)
-
-  plans-slot : (slot : ℕ) {amount : ℕ} → slot < day .counts .slots → amount ≡ getD (day .mins) choice 0 → getD sums slot 0 + amount ≤ day .counts .choosers
-      → plansAt day n start sums slot ≡ plansFrom day n (start ++ (slot ∷ [])) (set sums slot (getD sums slot 0 + amount))
-  unfolding plansAt goesTo sumsTo
-  plans-slot slot h e f =
-      rw (at, slot-fits _ _ (day .mins) (day .optional) sums choice slot h e f, sums-slot _ (day .counts .choosers) (day .mins) (day .optional) sums choice slot h e)
-
-  plans-over : (slot : ℕ) {amount : ℕ} → slot < day .counts .slots → amount ≡ getD (day .mins) choice 0 → day .counts .choosers < getD sums slot 0 + amount
-      → plansAt day n start sums slot ≡ []
-  unfolding plansAt goesTo
-  plans-over slot h e f = rw (at, slot-over _ _ (day .mins) (day .optional) sums choice slot h e f)
-
-  plans-last : plansPast day n start sums (day .counts .slots) ≡ plansAt day n start sums 255
-  unfolding plansPast flatMap
-  plans-last = rw (places-last (day .counts .slots)) (append-nil (plansAt day n start sums 255))
-
-  plans-omission : (slot : ℕ) → slot ≡ day .counts .slots → day .counts .slots ≤ 24 → getD (day .optional) choice 0 ≡ 1
-      → plansPast day n start sums slot ≡ plansFrom day n (start ++ (255 ∷ [])) sums
-  unfolding plansAt goesTo sumsTo
-  plans-omission slot s h e =
-      rw s
-      (plans-last
-      ∙ rw (at, omission-fits _ _ (day .mins) (day .optional) sums choice h e, sums-omission _ (day .counts .choosers) (day .mins) (day .optional) sums choice h))
-
-  plans-none : (slot : ℕ) → slot ≡ day .counts .slots → day .counts .slots ≤ 24 → (getD (day .optional) choice 0 ≡ 1 → ⊥)
-      → plansPast day n start sums slot ≡ []
-  unfolding plansAt goesTo
-  plans-none slot s h e = rw s (plans-last ∙ rw (at, omission-out _ _ (day .mins) (day .optional) sums choice h e))
+      let z : day .counts .slots - day .counts .slots ≡ 0 = omega arith in
+      rw (e, add-one (day .counts .slots))
+      (rw (sym (places-start (day .counts .slots)), sym z) (sym (left-past day (length plan - (choice + 1)) (take choice plan) sums (day .counts .slots) (omega arith))))
 
 -- ---- a choice set at the start's end
 
@@ -102,6 +116,13 @@ shaped-kept s p b =
       buffer-fits = b ∙ s .buffer-fits;
     }
 
+-- the place with so many left, and the plans that go on with it
+abbrev placeWith : Day → ℕ → ℕ
+placeWith day left = placeOf (day .counts .slots) (day .counts .slots + 1 - left)
+
+abbrev plansWith : Day → ℕ → ℕ → List ℕ → List ℕ → List (List ℕ)
+plansWith day choice left plan sums = plansAt day (length plan - (choice + 1)) (take choice plan) sums (placeWith day left)
+
 -- ---- a choice
 
 module _ {day : Day} {room choice : ℕ} {plan sums : List ℕ} {total : ℕ} {buffer : List ℕ}
@@ -110,9 +131,10 @@ module _ {day : Day} {room choice : ℕ} {plan sums : List ℕ} {total : ℕ} {b
   pub full-numbers : choice ≡ length plan → total + length (ifFeasible day plan) < 2 ^ 64
   full-numbers e = rw (plans-full day plan sums choice e) at (l .numbers)
 
-  pub listing-full : {first total' : ℕ} {buffer' : List ℕ} → choice ≡ length plan → Added first room (ifFeasible day plan) total total' buffer buffer'
-      → Listing first room choice (plansFrom day (length plan - choice) (take choice plan) sums) plan plan sums sums total total' buffer buffer'
-  listing-full e a = record { added = rw (plans-full day plan sums choice e) a; start = refl; kept = refl }
+  pub listing-full : {first total' : ℕ} {plan' buffer' : List ℕ} → choice ≡ length plan → plan' ≡ plan → Added first room (ifFeasible day plan) total total' buffer buffer'
+      → Listing first room choice (plansFrom day (length plan - choice) (take choice plan) sums) plan plan' sums sums total total' buffer buffer'
+  listing-full e p a =
+      record { added = rw (plans-full day plan sums choice e) a; start = ap (take choice) p; kept = refl; same-plan = ap length p }
 
   module _ (n : choice ≡ length plan → ⊥) where
     left : choice < length plan
@@ -120,158 +142,148 @@ module _ {day : Day} {room choice : ℕ} {plan sums : List ℕ} {total : ℕ} {b
         let k : choice ≤ length plan = omega (arith, l .walks .within, l .shaped .mins-fit, l .shaped .plan-fits) in
         lt-of-le-ne k n
 
-    -- any other goes on to the places
-    pub on-requires : Lists day room (choice + 1) plan sums (plansPast day (length plan - (choice + 1)) (take choice plan) sums 0) total buffer
-    on-requires =
-        record {
-          shaped = l .shaped;
-          walks = walks-next (l .walks) (λ e. n (e ∙ l .shaped .mins-fit ∙ sym (l .shaped .plan-fits)));
-          numbers = rw (plans-on day plan sums choice left) at (l .numbers);
-        }
+    pub on-walks : Walks (day .counts .slots) (day .counts .choosers) (day .mins) (day .optional) (choice + 1) sums
+    on-walks = walks-next (l .walks) (λ e. n (e ∙ l .shaped .mins-fit ∙ sym (l .shaped .plan-fits)))
 
-    pub listing-on : {first total' : ℕ} {plan' sums' buffer' : List ℕ}
-        → Listing first room choice (plansPast day (length plan - (choice + 1)) (take choice plan) sums 0) plan plan' sums sums' total total' buffer buffer'
-        → Listing first room choice (plansFrom day (length plan - choice) (take choice plan) sums) plan plan' sums sums' total total' buffer buffer'
-    listing-on g = rw (plans-on day plan sums choice left) g
+    -- any other goes on to the places that the choice may take
+    module _ {next : ℕ} (e : next ≡ nextOpen (day .counts .slots) (day .counts .choosers) (day .mins) (day .optional) sums choice (day .counts .slots + 1)) where
+      on-plans : plansFrom day (length plan - choice) (take choice plan) sums ≡ plansLeft day (length plan - (choice + 1)) (take choice plan) sums next
+      on-plans =
+          plans-on day plan sums choice left
+          ∙ sym (rw e (left-open day (length plan - (choice + 1)) (take choice plan) sums (start-length choice plan left) (day .counts .slots + 1)))
+
+      pub on-none : {first : ℕ} → next ≡ 0
+          → Listing first room choice (plansFrom day (length plan - choice) (take choice plan) sums) plan plan sums sums total total buffer buffer
+      unfolding plansLeft
+      on-none {first} z =
+          record { added = rw (on-plans ∙ ap (plansLeft day (length plan - (choice + 1)) (take choice plan) sums) z) (none-added first room); start = refl; kept = refl; same-plan = refl }
+
+      pub on-requires : (next ≡ 0 → ⊥)
+          → Lists day room (choice + 1) plan sums (plansLeft day (length plan - (choice + 1)) (take choice plan) sums next) total buffer × Open day choice next sums
+      on-requires k = (
+        record { shaped = l .shaped; walks = on-walks; numbers = rw on-plans at (l .numbers) },
+        open-next day choice (day .counts .slots + 1) sums (omega arith) e k,
+      )
+
+      pub listing-on : {first total' : ℕ} {plan' sums' buffer' : List ℕ}
+          → Listing first room choice (plansLeft day (length plan - (choice + 1)) (take choice plan) sums next) plan plan' sums sums' total total' buffer buffer'
+          → Listing first room choice (plansFrom day (length plan - choice) (take choice plan) sums) plan plan' sums sums' total total' buffer buffer'
+      listing-on g = rw on-plans g
 
 -- ---- a place
 
-module _ (choice slot : ℕ) {day : Day} {room : ℕ} {plan sums : List ℕ} {total : ℕ} {buffer : List ℕ}
-    (l : Lists day room (choice + 1) plan sums (plansPast day (length plan - (choice + 1)) (take choice plan) sums slot) total buffer) where
+module _ (choice left : ℕ) {day : Day} {room : ℕ} {plan sums : List ℕ} {total : ℕ} {buffer : List ℕ}
+    (l : Lists day room (choice + 1) plan sums (plansLeft day (length plan - (choice + 1)) (take choice plan) sums left) total buffer) (o : Open day choice left sums) where
   pub within-plan : choice < length plan
   within-plan = omega (arith, l .walks .within, l .shaped .mins-fit, l .shaped .plan-fits)
 
   at-start : length (take choice plan) ≡ choice
   at-start = start-length choice plan within-plan
 
-  -- omission, not allowed
-  pub listing-none : {first : ℕ} → slot ≡ day .counts .slots → (getD (day .optional) choice 0 ≡ 1 → ⊥)
-      → Listing first room choice (plansPast day (length plan - (choice + 1)) (take choice plan) sums slot) plan plan sums sums total total buffer buffer
-  listing-none {first} s e =
-      record {
-        added = rw (plans-none day (length plan - (choice + 1)) (take choice plan) sums at-start slot s (l .shaped .few-slots) e) (none-added first room);
-        start = refl;
-        kept = refl;
-      }
+  here-next : plansLeft day (length plan - (choice + 1)) (take choice plan) sums left
+      ≡ plansWith day choice left plan sums ++ plansLeft day (length plan - (choice + 1)) (take choice plan) sums (left - 1)
+  here-next = left-next day (length plan - (choice + 1)) (take choice plan) sums left (o .some)
 
-  -- or allowed
-  module _ (s : slot ≡ day .counts .slots) (e : getD (day .optional) choice 0 ≡ 1) where
-    omission-plans : plansPast day (length plan - (choice + 1)) (take choice plan) sums slot
-        ≡ plansFrom day (length (set plan choice 255) - (choice + 1)) (take (choice + 1) (set plan choice 255)) sums
-    omission-plans =
-        plans-omission day (length plan - (choice + 1)) (take choice plan) sums at-start slot s (l .shaped .few-slots) e
-        ∙ sym (next-plans choice plan within-plan 255 day sums)
+  both-numbers : total + (length (plansWith day choice left plan sums) + length (plansLeft day (length plan - (choice + 1)) (take choice plan) sums (left - 1))) < 2 ^ 64
+  both-numbers = rw (here-next, length-append) at (l .numbers)
 
-    pub omission-requires : Lists day room (choice + 1) (set plan choice 255) sums (plansFrom day (length (set plan choice 255) - (choice + 1)) (take (choice + 1) (set plan choice 255)) sums) total buffer
-    omission-requires =
+  -- the choice stands there
+  module _ {at : ℕ} (place-is : at ≡ day .counts .slots + 1 - left) {plan' sums' : List ℕ} (p' : plan' ≡ set plan choice (placeOf (day .counts .slots) at))
+      (q' : sums' ≡ sumsWith (day .counts .slots) (day .mins) sums choice (placeOf (day .counts .slots) at)) where
+    p : plan' ≡ set plan choice (placeWith day left)
+    p = p' ∙ ap (λ (k : ℕ). set plan choice (placeOf (day .counts .slots) k)) place-is
+
+    q : sums' ≡ sumsWith (day .counts .slots) (day .mins) sums choice (placeWith day left)
+    q = q' ∙ ap (λ (k : ℕ). sumsWith (day .counts .slots) (day .mins) sums choice (placeOf (day .counts .slots) k)) place-is
+
+    here-plans : plansWith day choice left plan sums ≡ plansFrom day (length plan' - (choice + 1)) (take (choice + 1) plan') sums'
+    here-plans =
+        plans-taken day (length plan - (choice + 1)) (take choice plan) sums at-start (placeWith day left) (o .fits)
+        ∙ sym (rw (p, q) (next-plans choice plan within-plan (placeWith day left) day (sumsWith (day .counts .slots) (day .mins) sums choice (placeWith day left))))
+
+    pub taken-requires : Lists day room (choice + 1) plan' sums' (plansFrom day (length plan' - (choice + 1)) (take (choice + 1) plan') sums') total buffer
+    taken-requires =
         record {
-          shaped = shaped-kept (l .shaped) (length-set plan choice 255) refl;
-          walks = l .walks;
-          numbers = rw omission-plans at (l .numbers);
+          shaped = shaped-kept (l .shaped) (rw p (length-set plan choice (placeWith day left))) refl;
+          walks = rw q (walks-taken choice (day .counts .slots + 1 - left) (l .walks) (o .fits));
+          numbers = rw (sym here-plans) (omega (arith, both-numbers));
         }
 
-    pub listing-omission : {first total' : ℕ} {plan' sums' buffer' : List ℕ}
-        → Listing first room (choice + 1) (plansFrom day (length (set plan choice 255) - (choice + 1)) (take (choice + 1) (set plan choice 255)) sums) (set plan choice 255) plan' sums sums' total total' buffer buffer'
-        → Listing first room choice (plansPast day (length plan - (choice + 1)) (take choice plan) sums slot) plan plan' sums sums' total total' buffer buffer'
-    listing-omission {plan' = plan'} g =
-        record {
-          added = rw omission-plans (g .added);
-          start = start-kept choice plan within-plan 255 plan' (g .start);
-          kept = g .kept;
-        }
-
-  module _ (h : slot < day .counts .slots) where
-    numbers-both : total + (length (plansAt day (length plan - (choice + 1)) (take choice plan) sums slot) + length (plansPast day (length plan - (choice + 1)) (take choice plan) sums (slot + 1))) < 2 ^ 64
-    numbers-both = rw (plans-next day (length plan - (choice + 1)) (take choice plan) sums at-start slot h, length-append) at (l .numbers)
-
-    module _ {amount : ℕ} (e : amount ≡ getD (day .mins) choice 0) where
-      -- a slot that would be over the headcount is passed over
-      pub listing-over : {first : ℕ} → day .counts .choosers < getD sums slot 0 + amount
-          → Listing first room choice (plansAt day (length plan - (choice + 1)) (take choice plan) sums slot) plan plan sums sums total total buffer buffer
-      listing-over {first} o =
-          record {
-            added = rw (plans-over day (length plan - (choice + 1)) (take choice plan) sums at-start slot h e o) (none-added first room);
-            start = refl;
-            kept = refl;
-          }
-
-      -- one that fits goes on to the next choice
-      module _ (f : getD sums slot 0 + amount ≤ day .counts .choosers) where
-        abbrev taken : List (List ℕ)
-        taken =
-            plansFrom day (length (set plan choice slot) - (choice + 1)) (take (choice + 1) (set plan choice slot)) (set sums slot (getD sums slot 0 + amount))
-
-        slot-plans : plansAt day (length plan - (choice + 1)) (take choice plan) sums slot ≡ taken
-        slot-plans =
-            plans-slot day (length plan - (choice + 1)) (take choice plan) sums at-start slot h e f
-            ∙ sym (next-plans choice plan within-plan slot day (set sums slot (getD sums slot 0 + amount)))
-
-        pub slot-requires : Lists day room (choice + 1) (set plan choice slot) (set sums slot (getD sums slot 0 + amount)) taken total buffer
-        slot-requires =
-            record {
-              shaped = shaped-kept (l .shaped) (length-set plan choice slot) refl;
-              walks = walks-slot slot (getD sums slot 0 + amount) (l .walks) h f;
-              numbers = rw (sym slot-plans) (omega (arith, numbers-both));
-            }
-
-        pub listing-slot : {first total₁ : ℕ} {plan₁ sums₁ buffer₁ : List ℕ}
-            → Listing first room (choice + 1) taken (set plan choice slot) plan₁ (set sums slot (getD sums slot 0 + amount)) sums₁ total total₁ buffer buffer₁
-            → Listing first room choice (plansAt day (length plan - (choice + 1)) (take choice plan) sums slot) plan plan₁ sums (set sums₁ slot (getD sums slot 0)) total total₁ buffer buffer₁
-        listing-slot {plan₁ = plan₁} g =
-            record {
-              added = rw slot-plans (g .added);
-              start = start-kept choice plan within-plan slot plan₁ (g .start);
-              kept = sums-back slot (getD sums slot 0 + amount) (g .kept);
-            }
-
-    -- then the places from the next one on
     module _ {first total₁ : ℕ} {plan₁ sums₁ buffer₁ : List ℕ}
-        (g : Listing first room choice (plansAt day (length plan - (choice + 1)) (take choice plan) sums slot) plan plan₁ sums sums₁ total total₁ buffer buffer₁)
-        (p : length plan₁ ≡ length plan) where
-      rest-plans : plansPast day (length plan₁ - (choice + 1)) (take choice plan₁) sums₁ (slot + 1)
-          ≡ plansPast day (length plan - (choice + 1)) (take choice plan) sums (slot + 1)
-      rest-plans = rw (p, g .start, g .kept)
-
-      rest-requires : length buffer₁ ≡ length buffer
-          → Lists day room (choice + 1) plan₁ sums₁ (plansPast day (length plan₁ - (choice + 1)) (take choice plan₁) sums₁ (slot + 1)) total₁ buffer₁
-      rest-requires b =
+        (g : Listing first room (choice + 1) (plansFrom day (length plan' - (choice + 1)) (take (choice + 1) plan') sums') plan' plan₁ sums' sums₁ total total₁ buffer buffer₁) where
+      stands : Stands (day .counts .slots) (day .mins) choice (day .counts .slots + 1 - left) sums₁
+      stands =
           record {
-            shaped = shaped-kept (l .shaped) p b;
-            walks = rw (g .kept) (l .walks);
-            numbers = rw rest-plans (omega (arith, numbers-both, g .added .counted));
+            few-slots = l .shaped .few-slots;
+            few-choices = l .walks .few-choices;
+            within = omega (arith, l .walks .within);
+            so-far = omega (arith, o .some);
+            held = λ k. rw (g .kept ∙ q) (sum-held choice (day .counts .slots + 1 - left) (l .walks) (omega (arith, l .shaped .few-slots)) k);
           }
 
-      listing-rest : {total' : ℕ} {plan' sums' buffer' : List ℕ}
-          → Listing first room choice (plansPast day (length plan₁ - (choice + 1)) (take choice plan₁) sums₁ (slot + 1)) plan₁ plan' sums₁ sums' total₁ total' buffer₁ buffer'
-          → Listing first room choice (plansPast day (length plan - (choice + 1)) (take choice plan) sums slot) plan plan' sums sums' total total' buffer buffer'
-      listing-rest d =
-          record {
-            added =
-                rw (plans-next day (length plan - (choice + 1)) (take choice plan) sums at-start slot h)
-                (added-more first room _ _ (g .added) (rw rest-plans at (d .added)));
-            start = d .start ∙ g .start;
-            kept = d .kept ∙ g .kept;
-          }
+      pub stands-after : Stands (day .counts .slots) (day .mins) choice at sums₁
+      stands-after = rw place-is stands
 
--- ---- the loop over the slots
+      -- and leaves it again
+      module _ {sums₂ : List ℕ} (e : sums₂ ≡ sumsWithout (day .counts .slots) (day .mins) sums₁ choice (placeOf (day .counts .slots) at)) where
+        back : sums₂ ≡ sums
+        back =
+            e
+            ∙ ap (λ (k : ℕ). sumsWithout (day .counts .slots) (day .mins) sums₁ choice (placeOf (day .counts .slots) k)) place-is
+            ∙ rw (g .kept ∙ q) (sums-left choice (day .counts .slots + 1 - left) (l .walks))
 
--- it starts at the first
-pub onward-first : {day : Day} {first room choice : ℕ} {plan sums : List ℕ} {total : ℕ} {buffer : List ℕ}
-    → Lists day room (choice + 1) plan sums (plansPast day (length plan - (choice + 1)) (take choice plan) sums 0) total buffer
-    → Onward day first room choice 0 plan sums total buffer plan sums total buffer
-onward-first l = record { so-far = omega arith; rest = l; same-plan = refl; same-buffer = refl; all = λ g. g }
+        same : length plan₁ ≡ length plan
+        same = g .same-plan ∙ ap length p ∙ length-set plan choice (placeWith day left)
 
--- and a place takes it one further on
-pub onward-next : {day : Day} {first room : ℕ} (choice slot : ℕ) {plan₀ sums₀ : List ℕ} {total₀ : ℕ} {buffer₀ plan sums : List ℕ} {total : ℕ} {buffer : List ℕ} {plan₁ sums₁ : List ℕ} {total₁ : ℕ} {buffer₁ : List ℕ}
-    → Onward day first room choice slot plan₀ sums₀ total₀ buffer₀ plan sums total buffer → slot < day .counts .slots
-    → Listing first room choice (plansAt day (length plan - (choice + 1)) (take choice plan) sums slot) plan plan₁ sums sums₁ total total₁ buffer buffer₁
-    → length plan₁ ≡ length plan → length buffer₁ ≡ length buffer
-    → Onward day first room choice (slot + 1) plan₀ sums₀ total₀ buffer₀ plan₁ sums₁ total₁ buffer₁
-onward-next choice slot o h g p b =
-    record {
-      so-far = omega arith;
-      rest = rest-requires choice slot (o .rest) h g p b;
-      same-plan = p ∙ o .same-plan;
-      same-buffer = b ∙ o .same-buffer;
-      all = λ d. o .all (listing-rest choice slot (o .rest) h g p d);
-    }
+        before : take choice plan₁ ≡ take choice plan
+        before = start-kept choice plan within-plan (placeWith day left) plan₁ (rw p at (g .start))
+
+        pub walks-back : Walks (day .counts .slots) (day .counts .choosers) (day .mins) (day .optional) (choice + 1) sums₂
+        walks-back = rw back (l .walks)
+
+        -- then the places left that it may take
+        module _ {next : ℕ} (m : next ≡ nextOpen (day .counts .slots) (day .counts .choosers) (day .mins) (day .optional) sums₂ choice (left - 1)) where
+          pub fewer : next < left
+          fewer = omega (arith, m, open-within (day .counts .slots) (day .counts .choosers) (day .mins) (day .optional) sums₂ choice (left - 1), o .some)
+
+          rest-plans : plansLeft day (length plan₁ - (choice + 1)) (take choice plan₁) sums₂ next ≡ plansLeft day (length plan - (choice + 1)) (take choice plan) sums (left - 1)
+          rest-plans =
+              rw (same, before, m)
+              (rw back (left-open day (length plan - (choice + 1)) (take choice plan) sums at-start (left - 1)))
+
+          both-plans : plansLeft day (length plan - (choice + 1)) (take choice plan) sums left
+              ≡ plansFrom day (length plan' - (choice + 1)) (take (choice + 1) plan') sums' ++ plansLeft day (length plan₁ - (choice + 1)) (take choice plan₁) sums₂ next
+          both-plans = here-next ∙ rw (here-plans, sym rest-plans)
+
+          pub none-left : next ≡ 0
+              → Listing first room choice (plansLeft day (length plan - (choice + 1)) (take choice plan) sums left) plan plan₁ sums sums₂ total total₁ buffer buffer₁
+          unfolding plansLeft
+          none-left z =
+              record {
+                added = rw (both-plans ∙ ap (λ (k : ℕ). plansFrom day (length plan' - (choice + 1)) (take (choice + 1) plan') sums' ++ plansLeft day (length plan₁ - (choice + 1)) (take choice plan₁) sums₂ k) z ∙ append-nil (plansFrom day (length plan' - (choice + 1)) (take (choice + 1) plan') sums')) (g .added);
+                start = before;
+                kept = back;
+                same-plan = same;
+              }
+
+          pub rest-requires : length buffer₁ ≡ length buffer → (next ≡ 0 → ⊥)
+              → Lists day room (choice + 1) plan₁ sums₂ (plansLeft day (length plan₁ - (choice + 1)) (take choice plan₁) sums₂ next) total₁ buffer₁ × Open day choice next sums₂
+          rest-requires b k = (
+            record {
+              shaped = shaped-kept (l .shaped) same b;
+              walks = walks-back;
+              numbers = rw rest-plans (omega (arith, both-numbers, g .added .counted, ap length here-plans));
+            },
+            open-next day choice (left - 1) sums₂ (omega (arith, o .few)) m k,
+          )
+
+          pub listing-rest : {total' : ℕ} {plan₂ sums₃ buffer' : List ℕ}
+              → Listing first room choice (plansLeft day (length plan₁ - (choice + 1)) (take choice plan₁) sums₂ next) plan₁ plan₂ sums₂ sums₃ total₁ total' buffer₁ buffer'
+              → Listing first room choice (plansLeft day (length plan - (choice + 1)) (take choice plan) sums left) plan plan₂ sums sums₃ total total' buffer buffer'
+          listing-rest d =
+              record {
+                added = rw both-plans (added-more first room _ _ (g .added) (d .added));
+                start = d .start ∙ before;
+                kept = d .kept ∙ back;
+                same-plan = d .same-plan ∙ same;
+              }

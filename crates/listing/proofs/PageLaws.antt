@@ -1,23 +1,24 @@
 -- The page: a plan at its place, plans one after another, and the page as the front of a list's rest.
 use mathlib.Core.Path.{_≡_, refl, sym, ap, _∙_}
-use mathlib.Core.Bool.{Bool, true, false, cond, _&&_}
+use mathlib.Core.Bool.{Bool, true, false}
 use mathlib.Core.List.{List, [], _∷_, _++_, flatten}
 use Prim.Native.Nat.{ℕ, zero, suc, _+_, _-_, _*_, _≤_, _<_, _^_, min}
 use native.Mathlib.Nat.{mul-le-mul-right, suc-mul, zero-mul, add-zero}
 use native.Mathlib.Numerals.{add-one}
 use native.Mathlib.Omega.{arith}
 use borrow.Author.Tests.{lt-ltb, le-ltb, le-leb, lt-leb, ltb-true, ltb-false}
-use lib.Dec.{ltb, leb}
+use lib.Dec.{ltb}
 use lib.ListN.{length, take, drop, length-append, length-take, length-drop}
-use lib.Seq.{sets, take-nil, drop-nil}
+use lib.Seq.{sets, take-nil}
 use Rattle.lists.proofs.Copies.{sets-join}
-use Rattle.scheduling.specs.Day.{Day}
-use Rattle.scheduling.specs.Feasible.{feasible, isFeasible, lengthsFit}
+use Rattle.constraint.specs.declared.check.Counts.{Counts}
+use Rattle.scheduling.specs.Day.{Day, dayOf}
+use Rattle.scheduling.specs.Feasible.{feasible, isFeasible}
 use Rattle.scheduling.proofs.FeasibleLaws.{worker-agrees}
 use Rattle.scheduling.proofs.CheckLaws.{plan-decides}
 use borrow.Author.Tests.{eq-eqb}
-use Rattle.listing.specs.Walk.{ifFeasible, putPlan, putPlans}
-use Rattle.listing.specs.Steps.{Shaped, Added}
+use Rattle.listing.specs.steps.Walk.{ifFeasible, putPlan, putPlans}
+use Rattle.listing.specs.steps.Runs.{Shaped, Added}
 
 -- ---- one plan
 
@@ -70,6 +71,12 @@ module _ (first room : ℕ) {buffer buffer' : List ℕ} {total total' : ℕ} whe
       }
 
 -- ---- a full start and the plan check
+
+-- the counts read from the numbers asked are the day's
+pub told-counts : (mins maxs optional rows plan : List ℕ) {counts given : Counts} {passes : Bool} → passes ≡ isFeasible (dayOf given mins maxs optional rows) plan → given ≡ counts
+    → passes ≡ isFeasible (dayOf counts mins maxs optional rows) plan
+told-counts mins maxs optional rows plan e g =
+    e ∙ ap (λ (k : Counts). isFeasible (dayOf k mins maxs optional rows) plan) g
 
 module _ (day : Day) (room : ℕ) (plan buffer : List ℕ) (s : Shaped day room plan buffer) where
   -- the worker is the plan check

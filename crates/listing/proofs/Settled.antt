@@ -9,68 +9,80 @@ use lib.Dec.{leb}
 use lib.ListN.{length}
 use lib.Seq.{sets}
 use Rattle.lists.specs.Keep.{keep}
-use Rattle.lists.proofs.Outcome.{no-two}
 use Rattle.lists.proofs.SumBelow.{sum-first}
-use Rattle.constraint.specs.declared.check.Checked.the-variants as checked
+use Rattle.constraint.specs.Told.{Told, done, refused, good, Outcome, outcome}
+use Rattle.constraint.proofs.ToldLaws.{refusalOf, refusal-back, done-is}
+use Rattle.constraint.proofs.ToldLaws as tellings
 use Rattle.scheduling.specs.Day.{Day}
 use Rattle.listing.specs.Placements.{placements, page, total, isNode, nodes}
-use Rattle.listing.specs.Outcome.{Told, plansTold, turnsTold, Outcome, outcome, judgeOf, listedOf, listOf}
+use Rattle.listing.specs.Outcome.{PageTold, plansTold, turnsTold, listedTells, judgeOf, listedOf, listOf}
+use Rattle.listing.specs.declared.list_plans.Listed.{Listed}
+use Rattle.listing.specs.declared.list_plans.Listed.the-variants as listed
 use Rattle.listing.proofs.CallLaws.{good-told}
 use Rattle.listing.proofs.StartLaws.{empty-node}
 
+-- the answer, read back from what it tells
+abbrev pub listedBack : Told PageTold → Listed
+listedBack (done (plansTold written total nodes)) = listed.Plans written total nodes
+listedBack (done turnsTold) = listed.Turns
+listedBack (refused number carried) = listed.Refused (refusalOf number carried)
+
+pub listed-back : (answer : Listed) → listedBack (listedTells answer) ≡ answer
+listed-back (listed.Plans written total nodes) = refl
+listed-back listed.Turns = refl
+listed-back (listed.Refused why) = ap listed.Refused (refusal-back why)
+
 module _ (day : Day) (first room budget : ℕ) (buffer : List ℕ) where
   -- no two outcomes fit the promise
-  pub one-outcome : {answer other : Told} {written rest : List ℕ} → outcome answer written ≡ listOf day first room budget buffer
-      → outcome other rest ≡ listOf day first room budget buffer → (answer ≡ other) × (written ≡ rest)
-  one-outcome p q =
-      let z = no-two p q in
-      (ap (λ (o : Outcome). o .answer) z, ap (λ (o : Outcome). o .buffer) z)
+  pub one-outcome : {answer other : Listed} {written rest : List ℕ} → outcome (listedTells answer) written ≡ listOf day first room budget buffer
+      → outcome (listedTells other) rest ≡ listOf day first room budget buffer → (answer ≡ other) × (written ≡ rest)
+  one-outcome = tellings.one-outcome listedTells listedBack listed-back
 
-  module _ (good : judgeOf day room (length buffer) ≡ checked.Good) where
+  module _ (judged : judgeOf day room (length buffer) ≡ good) where
     -- out of turns if the nodes are more than the budget
-    pub turns-if : budget < nodes day → listOf day first room budget buffer ≡ outcome turnsTold buffer
+    pub turns-if : budget < nodes day → listOf day first room budget buffer ≡ outcome (done turnsTold) buffer
     unfolding listedOf
-    turns-if h = sym (good-told day first room budget buffer good) ∙ rw (lt-leb _ _ h)
+    turns-if h = sym (good-told day first room budget buffer judged) ∙ rw (lt-leb _ _ h)
 
     -- and listed if they aren't
     pub listed-if : nodes day ≤ budget
-        → listOf day first room budget buffer ≡ outcome (plansTold (length (page day first room)) (total day) (nodes day)) (sets buffer 0 (flatten (page day first room)))
+        → listOf day first room budget buffer ≡ outcome (done (plansTold (length (page day first room)) (total day) (nodes day))) (sets buffer 0 (flatten (page day first room)))
     unfolding listedOf
-    listed-if h = sym (good-told day first room budget buffer good) ∙ rw (le-leb _ _ h)
+    listed-if h = sym (good-told day first room budget buffer judged) ∙ rw (le-leb _ _ h)
 
     -- so only then
-    pub turns-only : listOf day first room budget buffer .answer ≡ turnsTold → budget < nodes day
+    pub turns-only : listOf day first room budget buffer .answer ≡ done turnsTold → budget < nodes day
     turns-only e = go (leb (nodes day) budget) refl
       where
         go : (b : Bool) → leb (nodes day) budget ≡ b → budget < nodes day
         go false t = leb-false _ _ t
         go true t =
-            let l : plansTold (length (page day first room)) (total day) (nodes day) ≡ turnsTold = ap (λ (o : Outcome). o .answer) (sym (listed-if (leb-true _ _ t))) ∙ e in
+            let l : plansTold (length (page day first room)) (total day) (nodes day) ≡ turnsTold = done-is (ap (λ (o : Outcome PageTold (List ℕ)). o .answer) (sym (listed-if (leb-true _ _ t))) ∙ e) in
             let z : _≡_ {A = ℕ} 0 1 = cc in
             absurd (omega arith)
 
 -- what is told of the plans is the day's, whatever the page: its total and its nodes
 module _ (day : Day) where
   told-of : (b : Bool) {written all visited : ℕ} (first room budget : ℕ) (buffer : List ℕ) → leb (nodes day) budget ≡ b
-      → listedOf day first room budget buffer .answer ≡ plansTold written all visited → (written ≡ length (page day first room)) × (all ≡ total day) × (visited ≡ nodes day)
+      → listedOf day first room budget buffer .answer ≡ done (plansTold written all visited) → (written ≡ length (page day first room)) × (all ≡ total day) × (visited ≡ nodes day)
   unfolding listedOf
   told-of true {written} {all} {visited} first room budget buffer t e =
-      let k : plansTold (length (page day first room)) (total day) (nodes day) ≡ plansTold written all visited = rw t at e in
+      let k : plansTold (length (page day first room)) (total day) (nodes day) ≡ plansTold written all visited = done-is (rw t at e) in
       (cc, cc, cc)
   told-of false {written} {all} {visited} first room budget buffer t e =
-      let k : turnsTold ≡ plansTold written all visited = rw t at e in
+      let k : turnsTold ≡ plansTold written all visited = done-is (rw t at e) in
       let z : _≡_ {A = ℕ} 0 1 = cc in
       absurd (omega arith)
 
-  pub total-told : {written all visited : ℕ} (first room budget : ℕ) (buffer : List ℕ) → judgeOf day room (length buffer) ≡ checked.Good
-      → listOf day first room budget buffer .answer ≡ plansTold written all visited → (written ≡ length (page day first room)) × (all ≡ total day) × (visited ≡ nodes day)
-  total-told first room budget buffer good e =
-      told-of (leb (nodes day) budget) first room budget buffer refl (ap (λ (o : Outcome). o .answer) (good-told day first room budget buffer good) ∙ e)
+  pub total-told : {written all visited : ℕ} (first room budget : ℕ) (buffer : List ℕ) → judgeOf day room (length buffer) ≡ good
+      → listOf day first room budget buffer .answer ≡ done (plansTold written all visited) → (written ≡ length (page day first room)) × (all ≡ total day) × (visited ≡ nodes day)
+  total-told first room budget buffer g e =
+      told-of (leb (nodes day) budget) first room budget buffer refl (ap (λ (o : Outcome PageTold (List ℕ)). o .answer) (good-told day first room budget buffer g) ∙ e)
 
   -- 'The total doesn't depend on first and room', nor on the budget
   pub total-same : {written all visited written' all' visited' : ℕ} (first room budget : ℕ) (buffer : List ℕ) (first' room' budget' : ℕ) (buffer' : List ℕ)
-      → judgeOf day room (length buffer) ≡ checked.Good → judgeOf day room' (length buffer') ≡ checked.Good
-      → listOf day first room budget buffer .answer ≡ plansTold written all visited → listOf day first' room' budget' buffer' .answer ≡ plansTold written' all' visited'
+      → judgeOf day room (length buffer) ≡ good → judgeOf day room' (length buffer') ≡ good
+      → listOf day first room budget buffer .answer ≡ done (plansTold written all visited) → listOf day first' room' budget' buffer' .answer ≡ done (plansTold written' all' visited')
       → (all ≡ all') × (visited ≡ visited')
   total-same first room budget buffer first' room' budget' buffer' g g' e e' =
       let t = total-told first room budget buffer g e in

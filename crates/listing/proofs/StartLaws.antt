@@ -18,10 +18,10 @@ use Rattle.scheduling.specs.Day.{Day}
 use Rattle.scheduling.specs.Plan.{slotOf, omitted, standsIn, sumUpTo, sumIn}
 use Rattle.scheduling.specs.Feasible.{omissionAllowed, placeAllowed, placesAllowed, slotFits, feasible}
 use Rattle.scheduling.specs.Rows.{keepsRows}
-use Rattle.scheduling.specs.Sums.{Sums}
+use Rattle.scheduling.specs.steps.Sums.{Sums}
 use Rattle.scheduling.proofs.SumLaws.{omission-is}
 use Rattle.listing.specs.Placements.{isNode}
-use Rattle.listing.specs.Walk.{placeFits, sumsWith, goesTo, sumsTo}
+use Rattle.listing.specs.steps.Walk.{placeFits, sumsWith, goesTo, sumsTo}
 
 -- ---- a start within a longer one
 

@@ -15,9 +15,9 @@ use Rattle.lists.proofs.Keep.{flatMap-ext, length-flatMap, map-flatMap, map-map
 use Rattle.scheduling.specs.Day.{Day}
 use Rattle.scheduling.specs.Feasible.{feasible}
 use Rattle.scheduling.specs.Plan.{sumUpTo, sumIn}
-use Rattle.scheduling.specs.Sums.{Sums}
+use Rattle.scheduling.specs.steps.Sums.{Sums}
 use Rattle.listing.specs.Placements.{places, placements, plans, isNode, nodes}
-use Rattle.listing.specs.Walk.{placeFits, sumsWith, nodesFrom, goesTo, sumsTo, ifFeasible, plansFrom}
+use Rattle.listing.specs.steps.Walk.{placeFits, sumsWith, nodesFrom, goesTo, sumsTo, ifFeasible, plansFrom}
 use Rattle.listing.proofs.StartLaws.{Node, node-facts, empty-node, no-node-after, no-plan-after, step-node, step-sums}
 
 -- the placements that go on from a start

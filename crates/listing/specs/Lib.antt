@@ -1,4 +1,3 @@
 pub mod Placements
 pub mod Outcome
-pub mod Walk
-pub mod Steps
+pub mod steps

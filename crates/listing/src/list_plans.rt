@@ -1,15 +1,17 @@
 // The public call: its refusals, the count of the nodes against the budget, and the listing.
 use super::nodes::count_choice;
 use super::nodes::no_sums;
+use super::nodes::spent_of;
 use super::page::written_of;
 use super::plans::list_choice;
+use super::plans::numbers_asked;
 use constraint::check::Checked;
 use constraint::check::Counts;
 use constraint::check::Takes;
 use constraint::check::check_each_row;
 use constraint::check::counts_in_range;
 use constraint::refusal::Refusal;
-use scheduling::plan_check::flags_fit;
+use day_lists::flags_fit;
 ghost use mathlib.Core.Path.{_≡_};
 ghost use mathlib.Core.List.{flatten};
 ghost use Prim.Native.Nat.{_*_, _<_, _^_};
@@ -18,8 +20,10 @@ ghost use lib.ListN.{length, replicate};
 ghost use lib.Seq.{sets};
 ghost use Rattle.scheduling.specs.Day.{dayOf};
 ghost use Rattle.listing.specs.Placements.{page, total};
-ghost use Rattle.listing.specs.Outcome.{lengthsFit, judgeOf, listedTells, outcome, listedOf, listOf};
-ghost use Rattle.listing.specs.Steps.{Judged};
+ghost use Rattle.constraint.specs.Check.{checkedTells};
+ghost use Rattle.constraint.specs.Told.{outcome};
+ghost use Rattle.listing.specs.Outcome.{lengthsFit, judgeOf, listedTells, listedOf, listOf};
+ghost use Rattle.listing.specs.steps.Runs.{Judged};
 
 // What the listing answers: how many plans it wrote, how many there are and how many nodes it visited; or out of turns; or why it is refused.
 pub enum Listed {
@@ -32,7 +36,7 @@ pub enum Listed {
     Refused(Refusal),
 }
 
-// 'a lent buffer of room times C bytes', whatever the room.
+// Whether the lent buffer has C bytes for each plan that there is room for, whatever the room.
 fn buffer_fits(choices: usize, room: u64, size: usize) -> bool
     ensures { λ r. ⌜ r ≡ eqb size (room * choices) ⌝ }
 {
@@ -82,7 +86,7 @@ fn judge(
     room: u64,
     size: usize,
 ) -> Checked
-    ensures { λ r. ⌜ r ≡ judgeOf (dayOf counts (now (mins .entry)) (now (maxs .entry)) (now (optional .entry)) (now (rows .entry))) room size ⌝ }
+    ensures { λ r. ⌜ checkedTells r ≡ judgeOf (dayOf counts (now (mins .entry)) (now (maxs .entry)) (now (optional .entry)) (now (rows .entry))) room size ⌝ }
 {
     if !counts_in_range(counts, Takes::Scheduling) {
         return Checked::Refused(Refusal::Count);
@@ -121,20 +125,20 @@ fn list_all(
     requires { ⌜ Judged (dayOf counts (now mins) (now maxs) (now optional) (now rows)) room (now buffer) × (total (dayOf counts (now mins) (now maxs) (now optional) (now rows)) < 2 ^ 64) ⌝ }
     ensures { λ r. ⌜ (r ≡ total (dayOf counts (now (mins .entry)) (now (maxs .entry)) (now (optional .entry)) (now (rows .entry)))) × (now (buffer .exit) ≡ sets (now (buffer .entry)) 0 (flatten (page (dayOf counts (now (mins .entry)) (now (maxs .entry)) (now (optional .entry)) (now (rows .entry))) first room))) ⌝ }
 {
+    let asked = numbers_asked(counts, first, room);
+    let choices = counts.choices;
     let mut plan = no_plan();
+    let mut places = &mut plan[..choices];
     let mut sums = no_sums();
     let mut total = 0;
-    let choices = counts.choices;
     list_choice(
-        counts,
-        mins,
-        maxs,
-        optional,
-        rows,
-        first,
-        room,
+        &asked,
+        &mins,
+        &maxs,
+        &optional,
+        &rows,
         0,
-        &mut plan[..choices],
+        &mut places,
         &mut sums,
         &mut total,
         buffer,
@@ -164,7 +168,7 @@ fn list_day(
     if !count_choice(slots, choosers, &mins, &optional, 0, &mut sums, &mut left) {
         return Listed::Turns;
     }
-    let nodes = budget - left;
+    let nodes = spent_of(budget, left);
     let total = list_all(counts, mins, maxs, optional, rows, first, room, buffer);
     let written = written_of(first, room, total);
     Listed::Plans {

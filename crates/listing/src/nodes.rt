@@ -2,8 +2,8 @@
 ghost use mathlib.Core.Path.{_≡_};
 ghost use Prim.Native.Nat.{_+_, _-_, _≤_, _<_, _^_};
 ghost use lib.ListN.{length, replicate};
-ghost use Rattle.listing.specs.Walk.{nodesFrom, nodesPast};
-ghost use Rattle.listing.specs.Steps.{Walks, Counted};
+ghost use Rattle.listing.specs.steps.Walk.{nodesFrom, nodesPast};
+ghost use Rattle.listing.specs.steps.Runs.{Walks, Counted};
 
 // A sum of minimums for each of the slots that a day may have, all 0.
 pub(crate) fn no_sums() -> [usize; 24]
@@ -92,4 +92,14 @@ fn count_place(
         sums,
         left,
     )
+}
+
+// How much of the budget is spent.
+pub(crate) fn spent_of(budget: u64, left: u64) -> u64
+    ensures { λ r. ⌜ r ≡ budget - left ⌝ }
+{
+    if budget <= left {
+        return 0;
+    }
+    budget - left
 }

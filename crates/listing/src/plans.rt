@@ -5,77 +5,195 @@ use constraint::check::Counts;
 use scheduling::feasible::is_feasible;
 use scheduling::plan::OMITTED;
 ghost use mathlib.Core.Path.{_≡_};
-ghost use Prim.Native.Nat.{_+_, _-_, _<_, _^_};
-ghost use lib.ListN.{length, take};
+ghost use Prim.Native.Nat.{_+_, _-_, _≤_, _<_, _^_};
+ghost use lib.ListN.{length, getD, set, take};
 ghost use Rattle.scheduling.specs.Day.{dayOf};
-ghost use Rattle.listing.specs.Walk.{ifFeasible, plansFrom, plansAt, plansPast};
-ghost use Rattle.listing.specs.Steps.{Shaped, Lists, Added, Listing};
+ghost use Rattle.listing.specs.steps.Walk.{numbersAsked, countsOf, placeOf, placeFits, sumsWith, sumsWithout, nextOpen, ifFeasible, plansFrom, plansLeft};
+ghost use Rattle.listing.specs.steps.Runs.{Walks, Stands, Shaped, Lists, Added, Listing, Open};
+
+// Where each of the numbers stands that all the starts share: the day's counts, the first plan number and the room.
+const CHOICES: usize = 0;
+
+const SLOTS: usize = 1;
+
+const CHOOSERS: usize = 2;
+
+const ROWS: usize = 3;
+
+const FIRST: usize = 4;
+
+const ROOM: usize = 5;
+
+// These numbers in one array: a reference to it is one argument at each call.
+pub(crate) fn numbers_asked(counts: Counts, first: u64, room: u64) -> [usize; 6]
+    ensures { λ r. ⌜ r ≡ numbersAsked counts first room ⌝ }
+{
+    [
+        counts.choices,
+        counts.slots,
+        counts.choosers,
+        counts.rows,
+        first as usize,
+        room as usize,
+    ]
+}
+
+// The counts among them.
+fn counts_of(asked: &[usize; 6]) -> Counts
+    ensures { λ r. ⌜ r ≡ countsOf (now (asked .entry)) ⌝ }
+{
+    Counts {
+        choices: asked[CHOICES],
+        slots: asked[SLOTS],
+        choosers: asked[CHOOSERS],
+        rows: asked[ROWS],
+    }
+}
 
 // A full start: one plan more if the plan check passes it.
 fn list_plan(
-    counts: Counts,
+    asked: &[usize; 6],
     mins: &[u16],
     maxs: &[u16],
     optional: &[u8],
     rows: &[u64],
-    first: u64,
-    room: u64,
-    plan: &[u8],
+    plan: &mut [u8],
     total: &mut u64,
     buffer: &mut [u8],
 )
-    requires { ⌜ Shaped (dayOf counts (now mins) (now maxs) (now optional) (now rows)) room (now plan) (now buffer) × (now total + length (ifFeasible (dayOf counts (now mins) (now maxs) (now optional) (now rows)) (now plan)) < 2 ^ 64) ⌝ }
-    ensures { λ _. ⌜ Added first room (ifFeasible (dayOf counts (now (mins .entry)) (now (maxs .entry)) (now (optional .entry)) (now (rows .entry))) (now (plan .entry))) (now (total .entry)) (now (total .exit)) (now (buffer .entry)) (now (buffer .exit)) ⌝ }
+    requires { ⌜ Shaped (dayOf (countsOf (now asked)) (now mins) (now maxs) (now optional) (now rows)) (getD (now asked) 5 0) (now plan) (now buffer) × (now total + length (ifFeasible (dayOf (countsOf (now asked)) (now mins) (now maxs) (now optional) (now rows)) (now plan)) < 2 ^ 64) ⌝ }
+    ensures { λ _. ⌜ Added (getD (now (asked .entry)) 4 0) (getD (now (asked .entry)) 5 0) (ifFeasible (dayOf (countsOf (now (asked .entry))) (now (mins .entry)) (now (maxs .entry)) (now (optional .entry)) (now (rows .entry))) (now (plan .entry))) (now (total .entry)) (now (total .exit)) (now (buffer .entry)) (now (buffer .exit)) × (now (plan .exit) ≡ now (plan .entry)) ⌝ }
 {
-    if !is_feasible(counts, mins, maxs, optional, rows, plan) {
+    if !is_feasible(counts_of(asked), mins, maxs, optional, rows, plan) {
         return;
     }
-    put_plan(first, room, *total, plan, buffer);
+    put_plan(
+        asked[FIRST] as u64,
+        asked[ROOM] as u64,
+        *total,
+        plan,
+        buffer,
+    );
     *total += 1;
 }
 
-// 'one function per choice': fills in the choice by trying its places.
-pub(crate) fn list_choice(
-    counts: Counts,
-    mins: &[u16],
-    maxs: &[u16],
-    optional: &[u8],
-    rows: &[u64],
-    first: u64,
-    room: u64,
+// The place with so many places left, itself among them, 'slots before omission': the slots by their numbers, then omission.
+fn place_at(slots: usize, left: usize) -> usize
+    requires { ⌜ (0 < left) × (left ≤ slots + 1) × (slots ≤ 24) ⌝ }
+    ensures { λ r. ⌜ r ≡ slots + 1 - left ⌝ }
+{
+    slots + 1 - left
+}
+
+// Whether a choice may take a place: a slot whose sum of minimums stays within the headcount, or omission if it is optional.
+fn may_take(
+    slots: usize,
+    choosers: usize,
+    mins: &&[u16],
+    optional: &&[u8],
     choice: usize,
-    plan: &mut [u8],
+    place: usize,
+    sums: &[usize; 24],
+) -> bool
+    requires { ⌜ Walks slots choosers (now (now mins)) (now (now optional)) (choice + 1) (now sums) × (place ≤ slots) ⌝ }
+    ensures { λ r. ⌜ r ≡ placeFits slots choosers (now (now (mins .entry))) (now (now (optional .entry))) (now (sums .entry)) choice (placeOf slots place) ⌝ }
+{
+    if place == slots {
+        return optional[choice] == 1;
+    }
+    let sum = sums[place] + wide(mins[choice]);
+    sum <= choosers
+}
+
+// How many places are left from the next one on that the choice may take; 0 if there is none.
+fn next_open(
+    slots: usize,
+    choosers: usize,
+    mins: &&[u16],
+    optional: &&[u8],
+    choice: usize,
+    left: usize,
+    sums: &[usize; 24],
+) -> usize
+    requires { ⌜ Walks slots choosers (now (now mins)) (now (now optional)) (choice + 1) (now sums) × (left ≤ slots + 1) ⌝ }
+    ensures { λ r. ⌜ r ≡ nextOpen slots choosers (now (now (mins .entry))) (now (now (optional .entry))) (now (sums .entry)) choice left ⌝ }
+{
+    if left == 0 {
+        return 0;
+    }
+    let place = place_at(slots, left);
+    if may_take(slots, choosers, mins, optional, choice, place, sums) {
+        return left;
+    }
+    next_open(slots, choosers, mins, optional, choice, left - 1, sums)
+}
+
+// The choice stands at a place.
+fn take_place(
+    slots: usize,
+    mins: &&[u16],
+    choice: usize,
+    place: usize,
+    plan: &mut &mut [u8],
+    sums: &mut [usize; 24],
+)
+    requires { ⌜ (choice < length (now (now mins))) × (length (now (now mins)) ≤ 64) × (choice < length (now (now plan))) × (place ≤ slots) × (slots ≤ 24) × (getD (now sums) place 0 ≤ 200) ⌝ }
+    ensures { λ _. ⌜ (now (now (plan .exit)) ≡ set (now (now (plan .entry))) choice (placeOf slots place)) × (now (sums .exit) ≡ sumsWith slots (now (now (mins .entry))) (now (sums .entry)) choice (placeOf slots place)) ⌝ }
+{
+    if place == slots {
+        plan[choice] = OMITTED;
+        return;
+    }
+    sums[place] += wide(mins[choice]);
+    plan[choice] = place as u8;
+}
+
+// And leaves it: the sums are as they were.
+fn leave_place(slots: usize, mins: &&[u16], choice: usize, place: usize, sums: &mut [usize; 24])
+    requires { ⌜ Stands slots (now (now mins)) choice place (now sums) ⌝ }
+    ensures { λ _. ⌜ now (sums .exit) ≡ sumsWithout slots (now (now (mins .entry))) (now (sums .entry)) choice (placeOf slots place) ⌝ }
+{
+    if place == slots {
+        return;
+    }
+    sums[place] -= wide(mins[choice]);
+}
+
+// 'one function per choice': fills in the choice, from the first place on that it may take.
+// A slice is copied at each call, a reference to it isn't; the buffer alone can't be had behind one.
+pub(crate) fn list_choice(
+    asked: &[usize; 6],
+    mins: &&[u16],
+    maxs: &&[u16],
+    optional: &&[u8],
+    rows: &&[u64],
+    choice: usize,
+    plan: &mut &mut [u8],
     sums: &mut [usize; 24],
     total: &mut u64,
     buffer: &mut [u8],
 )
-    requires { ⌜ Lists (dayOf counts (now mins) (now maxs) (now optional) (now rows)) room choice (now plan) (now sums) (plansFrom (dayOf counts (now mins) (now maxs) (now optional) (now rows)) (length (now plan) - choice) (take choice (now plan)) (now sums)) (now total) (now buffer) ⌝ }
-    ensures { λ _. ⌜ Listing first room choice (plansFrom (dayOf counts (now (mins .entry)) (now (maxs .entry)) (now (optional .entry)) (now (rows .entry))) (length (now (plan .entry)) - choice) (take choice (now (plan .entry))) (now (sums .entry))) (now (plan .entry)) (now (plan .exit)) (now (sums .entry)) (now (sums .exit)) (now (total .entry)) (now (total .exit)) (now (buffer .entry)) (now (buffer .exit)) ⌝ }
+    requires { ⌜ Lists (dayOf (countsOf (now asked)) (now (now mins)) (now (now maxs)) (now (now optional)) (now (now rows))) (getD (now asked) 5 0) choice (now (now plan)) (now sums) (plansFrom (dayOf (countsOf (now asked)) (now (now mins)) (now (now maxs)) (now (now optional)) (now (now rows))) (length (now (now plan)) - choice) (take choice (now (now plan))) (now sums)) (now total) (now buffer) ⌝ }
+    ensures { λ _. ⌜ Listing (getD (now (asked .entry)) 4 0) (getD (now (asked .entry)) 5 0) choice (plansFrom (dayOf (countsOf (now (asked .entry))) (now (now (mins .entry))) (now (now (maxs .entry))) (now (now (optional .entry))) (now (now (rows .entry)))) (length (now (now (plan .entry))) - choice) (take choice (now (now (plan .entry)))) (now (sums .entry))) (now (now (plan .entry))) (now (now (plan .exit))) (now (sums .entry)) (now (sums .exit)) (now (total .entry)) (now (total .exit)) (now (buffer .entry)) (now (buffer .exit)) ⌝ }
 {
     if choice == plan.len() {
-        list_plan(
-            counts,
-            mins,
-            maxs,
-            optional,
-            rows,
-            first,
-            room,
-            plan,
-            total,
-            buffer,
-        );
+        list_plan(asked, *mins, *maxs, *optional, *rows, *plan, total, buffer);
         return;
     }
-    list_places(
-        counts,
+    let slots = asked[SLOTS];
+    let choosers = asked[CHOOSERS];
+    let left = next_open(slots, choosers, mins, optional, choice, slots + 1, sums);
+    if left == 0 {
+        return;
+    }
+    list_place(
+        asked,
         mins,
         maxs,
         optional,
         rows,
-        first,
-        room,
         choice,
+        left,
         plan,
         sums,
         total,
@@ -83,102 +201,55 @@ pub(crate) fn list_choice(
     );
 }
 
-// The places of a choice, 'slots before omission': a loop, so that a slot which doesn't fit costs no call.
-fn list_places(
-    counts: Counts,
-    mins: &[u16],
-    maxs: &[u16],
-    optional: &[u8],
-    rows: &[u64],
-    first: u64,
-    room: u64,
-    choice: usize,
-    plan: &mut [u8],
-    sums: &mut [usize; 24],
-    total: &mut u64,
-    buffer: &mut [u8],
-)
-    requires { ⌜ Lists (dayOf counts (now mins) (now maxs) (now optional) (now rows)) room (choice + 1) (now plan) (now sums) (plansPast (dayOf counts (now mins) (now maxs) (now optional) (now rows)) (length (now plan) - (choice + 1)) (take choice (now plan)) (now sums) 0) (now total) (now buffer) ⌝ }
-    ensures { λ _. ⌜ Listing first room choice (plansPast (dayOf counts (now (mins .entry)) (now (maxs .entry)) (now (optional .entry)) (now (rows .entry))) (length (now (plan .entry)) - (choice + 1)) (take choice (now (plan .entry))) (now (sums .entry)) 0) (now (plan .entry)) (now (plan .exit)) (now (sums .entry)) (now (sums .exit)) (now (total .entry)) (now (total .exit)) (now (buffer .entry)) (now (buffer .exit)) ⌝ }
-{
-    let mut slot = 0;
-    while slot < counts.slots {
-        list_place(
-            counts,
-            mins,
-            maxs,
-            optional,
-            rows,
-            first,
-            room,
-            choice,
-            slot,
-            plan,
-            sums,
-            total,
-            buffer,
-        );
-        slot += 1;
-    }
-    if optional[choice] != 1 {
-        return;
-    }
-    plan[choice] = OMITTED;
-    list_choice(
-        counts,
-        mins,
-        maxs,
-        optional,
-        rows,
-        first,
-        room,
-        choice + 1,
-        plan,
-        sums,
-        total,
-        buffer,
-    );
-}
-
-// 'one per place': a slot whose sum stays within the headcount goes on to the next choice.
+// 'one per place': the choice stands there while the listing goes on to the next choice; then it takes the next place that it may.
 fn list_place(
-    counts: Counts,
-    mins: &[u16],
-    maxs: &[u16],
-    optional: &[u8],
-    rows: &[u64],
-    first: u64,
-    room: u64,
+    asked: &[usize; 6],
+    mins: &&[u16],
+    maxs: &&[u16],
+    optional: &&[u8],
+    rows: &&[u64],
     choice: usize,
-    slot: usize,
-    plan: &mut [u8],
+    left: usize,
+    plan: &mut &mut [u8],
     sums: &mut [usize; 24],
     total: &mut u64,
     buffer: &mut [u8],
 )
-    requires { ⌜ Lists (dayOf counts (now mins) (now maxs) (now optional) (now rows)) room (choice + 1) (now plan) (now sums) (plansPast (dayOf counts (now mins) (now maxs) (now optional) (now rows)) (length (now plan) - (choice + 1)) (take choice (now plan)) (now sums) slot) (now total) (now buffer) × (slot < counts .slots) ⌝ }
-    ensures { λ _. ⌜ Listing first room choice (plansAt (dayOf counts (now (mins .entry)) (now (maxs .entry)) (now (optional .entry)) (now (rows .entry))) (length (now (plan .entry)) - (choice + 1)) (take choice (now (plan .entry))) (now (sums .entry)) slot) (now (plan .entry)) (now (plan .exit)) (now (sums .entry)) (now (sums .exit)) (now (total .entry)) (now (total .exit)) (now (buffer .entry)) (now (buffer .exit)) ⌝ }
+    requires { ⌜ Lists (dayOf (countsOf (now asked)) (now (now mins)) (now (now maxs)) (now (now optional)) (now (now rows))) (getD (now asked) 5 0) (choice + 1) (now (now plan)) (now sums) (plansLeft (dayOf (countsOf (now asked)) (now (now mins)) (now (now maxs)) (now (now optional)) (now (now rows))) (length (now (now plan)) - (choice + 1)) (take choice (now (now plan))) (now sums) left) (now total) (now buffer) × Open (dayOf (countsOf (now asked)) (now (now mins)) (now (now maxs)) (now (now optional)) (now (now rows))) choice left (now sums) ⌝ }
+    ensures { λ _. ⌜ Listing (getD (now (asked .entry)) 4 0) (getD (now (asked .entry)) 5 0) choice (plansLeft (dayOf (countsOf (now (asked .entry))) (now (now (mins .entry))) (now (now (maxs .entry))) (now (now (optional .entry))) (now (now (rows .entry)))) (length (now (now (plan .entry))) - (choice + 1)) (take choice (now (now (plan .entry)))) (now (sums .entry)) left) (now (now (plan .entry))) (now (now (plan .exit))) (now (sums .entry)) (now (sums .exit)) (now (total .entry)) (now (total .exit)) (now (buffer .entry)) (now (buffer .exit)) ⌝ }
 {
-    let before = sums[slot];
-    let after = before + wide(mins[choice]);
-    if counts.choosers < after {
-        return;
-    }
-    sums[slot] = after;
-    plan[choice] = slot as u8;
+    let slots = asked[SLOTS];
+    let place = place_at(slots, left);
+    take_place(slots, mins, choice, place, plan, sums);
     list_choice(
-        counts,
+        asked,
         mins,
         maxs,
         optional,
         rows,
-        first,
-        room,
         choice + 1,
         plan,
         sums,
         total,
         buffer,
     );
-    sums[slot] = before;
+    leave_place(slots, mins, choice, place, sums);
+    let choosers = asked[CHOOSERS];
+    let next = next_open(slots, choosers, mins, optional, choice, left - 1, sums);
+    if next == 0 {
+        return;
+    }
+    list_place(
+        asked,
+        mins,
+        maxs,
+        optional,
+        rows,
+        choice,
+        next,
+        plan,
+        sums,
+        total,
+        buffer,
+    );
 }

@@ -7,7 +7,7 @@ use native.Mathlib.Omega.{arith}
 use lib.ListN.{length, getD, take, drop, length-append, drop-of-length-le}
 use lib.Seq.{sets, drop-cons, drop-append-seam, take-append-seam, take-at, drop-at}
 use Rattle.lists.proofs.Stores.{Stores, stores-start, stores-part, stores-end}
-use Rattle.lists.specs.Cut.{cutAt, EndsFit}
+use Rattle.lists.specs.steps.Cut.{cutAt, EndsFit}
 use Rattle.lists.specs.Group.{endsFrom}
 
 -- the list at place i of the ends, and those after it

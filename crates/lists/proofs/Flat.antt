@@ -2,16 +2,14 @@
 use mathlib.Core.Path.{_≡_, refl, sym, _∙_}
 use mathlib.Core.List.{List, [], _∷_, _++_, append-assoc}
 use Prim.Native.Nat.{ℕ, zero, suc, _+_, _*_, _-_, _≤_, _<_}
-use native.Mathlib.Decide.{ℕ-discrete, decLt}
+use native.Mathlib.Decide.{ℕ-discrete}
 use native.Mathlib.Nat.{not-suc-le-zero, mul-suc, mul-zero}
 use native.Mathlib.Numerals.{add-one}
 use native.Mathlib.Omega.{arith}
-use borrow.Author.Tests.{lt-ltb, le-ltb}
-use lib.ListN.{length, getD, take, drop, set, replicate, length-append, getD-replicate, List·getD-append}
-use lib.Seq.{getD-at, getD-append-add, ext-getD, take-suc-set, take-all, take-length, take-at, drop-at, take-add, drop-drop, drop-append-add}
-use Rattle.lists.specs.Pool.{pad, window}
-use Rattle.lists.specs.Flat.{listBelow, joinBelow, orZero}
-use Rattle.lists.proofs.Pad.{length-pad}
+use lib.ListN.{length, getD, take, drop, set, length-append, List·getD-append}
+use lib.Seq.{getD-at, ext-getD, take-suc-set, take-length, take-at, drop-at, take-add, drop-drop, drop-append-add}
+use Rattle.lists.specs.Pool.{window}
+use Rattle.lists.specs.Flat.{listBelow, joinBelow}
 
 module _ {ℓ} {A : Type ℓ} where
   -- the code's i + 1
@@ -99,15 +97,6 @@ module _ {ℓ} {A : Type ℓ} where
   join-windows (suc n) w f a l h =
       rw (mul-suc, join-windows n w f a l (λ i k. h i (omega arith)), h n (omega arith)) (sym (window-split a (w * n) w l))
 
--- what a pool of f 0 .. f (n - 1) and zeros has at a place
-pub or-zero-at : (n : ℕ) (f : ℕ → ℕ) (i : ℕ) {v : ℕ} → i < n → v ≡ f i → v ≡ orZero n f i
-unfolding orZero
-or-zero-at n f i h e = rw (lt-ltb i n h) e
-
-pub or-zero-past : (n : ℕ) (f : ℕ → ℕ) (i : ℕ) → n ≤ i → 0 ≡ orZero n f i
-unfolding orZero
-or-zero-past n f i h = rw (le-ltb i n h)
-
 -- a pool is filled from the front, one entry a turn
 pub fill-start : (f : ℕ → ℕ) → [] ≡ listBelow 0 f
 unfolding listBelow
@@ -117,33 +106,8 @@ pub fill-next : (f : ℕ → ℕ) (pool : List ℕ) (i v : ℕ) → i < length p
     → take (i + 1) (set pool i v) ≡ listBelow (i + 1) f
 fill-next f pool i v h t e = rw (list-more i f, add-one i, take-suc-set pool i v h, t, e)
 
--- f 0 .. f (n - 1) with zeros after it is the padded list
-pub pad-list : (m n : ℕ) (f : ℕ → ℕ) → n ≤ m → listBelow m (orZero n f) ≡ pad m (listBelow n f)
-unfolding pad orZero
-pad-list m n f h =
-    ext-getD 0 (listBelow m (orZero n f)) (pad m (listBelow n f))
-    (length-list m (orZero n f) ∙ sym (length-pad m (listBelow n f) (rw length-list h)))
-    (λ i k. go i (rw length-list at k))
-  where
-    go : (i : ℕ) → i < m → getD (listBelow m (orZero n f)) i 0 ≡ getD (pad m (listBelow n f)) i 0
-    go i k =
-        getD-list m (orZero n f) i 0 k
-        ∙ elim (decLt i n) [
-          | yes e ↦
-              rw (lt-ltb i n e)
-              (sym (List·getD-append (listBelow n f) (replicate (m - length (listBelow n f)) 0) 0 i (rw length-list e) ∙ getD-list n f i 0 e))
-          | no e ↦
-              let le : n ≤ i = omega arith in
-              let s : i ≡ length (listBelow n f) + (i - n) = rw length-list (omega arith) in
-              rw (le-ltb i n le)
-              (rw s
-              (rw (getD-append-add (listBelow n f) (replicate (m - length (listBelow n f)) 0) (i - n) 0)
-              (sym (getD-replicate (m - length (listBelow n f)) (i - n) 0 0 (rw length-list (omega arith))))))
-        ]
-
--- the whole pool is filled
-pub fill-done : (n : ℕ) (f : ℕ → ℕ) (pool : List ℕ) (m i : ℕ) → n ≤ m → length pool ≡ m → i ≤ m → m ≤ i → take i pool ≡ listBelow i (orZero n f)
-    → pool ≡ pad m (listBelow n f)
-fill-done n f pool m i h e a b t =
-    let s : i ≡ m = omega arith in
-    sym (take-all m pool (omega arith)) ∙ (rw s at t) ∙ pad-list m n f h
+-- as many entries as there are
+pub fill-done : (f : ℕ → ℕ) (pool : List ℕ) (n i : ℕ) → i ≤ n → n ≤ i → take i pool ≡ listBelow i f → take n pool ≡ listBelow n f
+fill-done f pool n i a b t =
+    let e : i ≡ n = omega arith in
+    rw e at t

@@ -6,15 +6,15 @@ use mathlib.Core.Logic.{_↔_, ⊎-elim}
 use Prim.Native.Nat.{ℕ, zero, suc, _+_, _≤_, _<_}
 use native.Mathlib.Decide.{ℕ-discrete}
 use native.Mathlib.Nat.{add-assoc, zero-add, add-zero, not-suc-le-zero, eq-or-lt-of-le, le-of-suc-le-suc}
-use native.Mathlib.Numerals.{add-one}
 use native.Mathlib.Omega.{arith}
 use borrow.Author.Tests.{lt-ltb, le-ltb, ltb-true, ltb-false, eq-eqb, ne-eqb, eqb-true}
 use lib.Arith.{lt-of-le-ne}
 use lib.Dec.{eqb, ltb}
-use lib.ListN.{length, getD, length-append, List·getD-append}
-use lib.Seq.{getD-at}
+use lib.ListN.{length, getD}
 use Rattle.lists.specs.Below.{one}
-use Rattle.lists.specs.Group.{keepBelow, classOf, heads, classes, timesIn, Rising}
+use Rattle.lists.specs.Group.{keepBelow, classOf, heads, classes, timesIn}
+use Rattle.lists.specs.Sorted.{Rises}
+use Rattle.lists.proofs.Sorted.{rises-snoc}
 
 -- ---- what is kept
 
@@ -47,22 +47,13 @@ getD-in [] i d h = absurd (not-suc-le-zero h)
 getD-in (x ∷ l) zero d h = List·Memᴰ·head refl
 getD-in (x ∷ l) (suc i) d h = List·Memᴰ·tail (getD-in l i d (le-of-suc-le-suc h))
 
-pub rising-snoc : (l : List ℕ) (n : ℕ) → Rising l → ((x : ℕ) → List·Memᴰ x l → x < n) → Rising (l ++ (n ∷ []))
-unfolding Rising
-rising-snoc l n r below i h =
-    let m : suc i ≤ length l = le-of-suc-le-suc (rw (length-append l (n ∷ []), add-one) at h) in
-    ⊎-elim
-    (λ e. rw (List·getD-append l (n ∷ []) 0 i m, getD-at l n [] 0 (suc i) (sym e)) (below _ (getD-in l i 0 m)))
-    (λ k. rw (List·getD-append l (n ∷ []) 0 i m, List·getD-append l (n ∷ []) 0 (suc i) k) (r i k))
-    (eq-or-lt-of-le m)
-
-pub keep-rising : (n : ℕ) (p : ℕ → Bool) → Rising (keepBelow n p)
+pub keep-rises : (n : ℕ) (p : ℕ → Bool) → Rises (keepBelow n p)
 unfolding keepBelow
-keep-rising zero p = unfold Rising in λ i h. absurd (not-suc-le-zero h)
-keep-rising (suc n) p = go (p n) (keep-rising n p)
+keep-rises zero p = unfold Rises in tt
+keep-rises (suc n) p = go (p n) (keep-rises n p)
   where
-    go : (b : Bool) → Rising (keepBelow n p) → Rising (keepBelow n p ++ cond b (n ∷ []) [])
-    go true ih = rising-snoc (keepBelow n p) n ih (λ x m. kept n p x m .0)
+    go : (b : Bool) → Rises (keepBelow n p) → Rises (keepBelow n p ++ cond b (n ∷ []) [])
+    go true ih = rises-snoc (keepBelow n p) n ih (λ x m. kept n p x m .0)
     go false ih = rw append-nil ih
 
 -- ---- how often a number stands in a list
@@ -159,15 +150,15 @@ module _ (n : ℕ) (f : ℕ → ℕ) where
       )
 
   -- each class rises
-  pub class-rises : {g : List ℕ} → List·Memᴰ g (classes n f) → Rising g
+  pub class-rises : {g : List ℕ} → List·Memᴰ g (classes n f) → Rises g
   class-rises m =
       let h = class-is m in
-      subst Rising (sym (h .2)) (unfold classOf in keep-rising n _)
+      subst Rises (sym (h .2)) (unfold classOf in keep-rises n _)
 
   -- the values of the classes rise
-  pub heads-rise : Rising (heads n f)
+  pub heads-rise : Rises (heads n f)
   unfolding heads
-  heads-rise = keep-rising n _
+  heads-rise = keep-rises n _
 
   names : (rs : List ℕ) → ((r : ℕ) → List·Memᴰ r rs → (r < n) × (f r ≡ r)) → map (λ g. f (getD g 0 0)) (map (classOf n f) rs) ≡ rs
   names [] h = refl

@@ -1,8 +1,6 @@
 -- Lists made by place: the entries that a function gives for the numbers below a bound, and such lists joined.
-use mathlib.Core.Bool.{cond}
 use mathlib.Core.List.{List, [], _∷_, _++_}
 use Prim.Native.Nat.{ℕ, zero, suc}
-use lib.Dec.{ltb}
 
 -- f 0, f 1 .. f (n - 1)
 unfoldable pub listBelow {ℓ} : {A : Type ℓ} → ℕ → (ℕ → A) → List A
@@ -13,7 +11,3 @@ listBelow (suc n) f = listBelow n f ++ (f n ∷ [])
 unfoldable pub joinBelow {ℓ} : {A : Type ℓ} → ℕ → (ℕ → List A) → List A
 joinBelow zero f = []
 joinBelow (suc n) f = joinBelow n f ++ f n
-
--- what stands at place i of a pool that holds f 0 .. f (n - 1) and zeros after it
-unfoldable pub orZero : ℕ → (ℕ → ℕ) → ℕ → ℕ
-orZero n f i = cond (ltb i n) (f i) 0

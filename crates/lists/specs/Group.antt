@@ -1,9 +1,9 @@
 -- Numbers below a bound that pass a test, classes of equal value, and where each list of several ends.
 use mathlib.Core.Bool.{Bool, cond}
 use mathlib.Core.List.{List, [], _∷_, _++_, map}
-use Prim.Native.Nat.{ℕ, zero, suc, _+_, _<_}
+use Prim.Native.Nat.{ℕ, zero, suc, _+_}
 use lib.Dec.{eqb}
-use lib.ListN.{length, getD}
+use lib.ListN.{length}
 use Rattle.lists.specs.Below.{one}
 
 -- the numbers below the bound that pass the test, rising
@@ -32,7 +32,3 @@ endsFrom at (l ∷ ls) = (at + length l) ∷ endsFrom (at + length l) ls
 unfoldable pub timesIn : ℕ → List ℕ → ℕ
 timesIn x [] = 0
 timesIn x (y ∷ l) = one (eqb x y) + timesIn x l
-
--- each entry of a list is below the next
-unfoldable pub Rising : List ℕ → Type 0
-Rising l = (i : ℕ) → suc i < length l → getD l i 0 < getD l (suc i) 0

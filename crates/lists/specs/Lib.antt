@@ -1,9 +1,9 @@
 pub mod All
 pub mod Below
-pub mod Cut
 pub mod First
 pub mod Flat
 pub mod Group
 pub mod Keep
 pub mod Pool
 pub mod Sorted
+pub mod steps

@@ -12,22 +12,24 @@ use lib.Seq.{sets}
 use Rattle.lists.specs.Pool.{pad}
 use Rattle.lists.proofs.Outcome.{no-two}
 use Rattle.lists.proofs.Stores.{sets-zeros}
-use Rattle.constraint.specs.declared.refusal.Refusal.the-variants as refusal
-use Rattle.constraint.specs.declared.check.Checked.{Checked}
-use Rattle.constraint.specs.declared.check.Checked.the-variants as checked
+use Rattle.constraint.specs.Told.{Told, done, Verdict, refuse, outcome}
+use Rattle.constraint.specs.Told as verdict
+use Rattle.constraint.proofs.ToldLaws.{refusalOf, refusal-back, one-outcome}
 use Rattle.constraint.specs.declared.check.Counts.{Counts}
 use Rattle.constraint.specs.declared.check.Takes.the-variants as takes
 use Rattle.constraint.proofs.CountLaws.{within}
 use Rattle.constraints.specs.Turn.{clashOf}
 use Rattle.constraints.specs.Reduction.{expanded}
-use Rattle.day_file.specs.File.{dayIn}
+use Rattle.day_file.specs.File.{dayIn, longestFile}
 use Rattle.day_file.specs.Calls.{fileJudged}
 use Rattle.planner.specs.Answer.{Answer, clash, refused, searchDay, listAnswer, reduceAnswer, dayAnswer, judgedAnswer, answerOf, answerText}
-use Rattle.planner.specs.Calls.{plansText, longest, Outcome, outcome, toldOf}
-use Rattle.planner.specs.Put.{Put}
-use Rattle.planner.specs.Steps.{Given}
-use Rattle.planner.specs.declared.plans.Told.{Told}
-use Rattle.planner.specs.declared.plans.Told.the-variants as told
+use Rattle.planner.specs.Calls.{plansText, longest, madeTells, textJudged, textOf}
+use Rattle.planner.specs.steps.Put.{Put}
+use Rattle.planner.specs.steps.Given.{Given}
+use Rattle.planner.specs.Number.{numberIn}
+use Rattle.planner.specs.declared.number.Number.{Number}
+use Rattle.planner.specs.declared.plans.Made.{Made}
+use Rattle.planner.specs.declared.plans.Made.the-variants as made
 use Rattle.planner.proofs.FitLaws.{Modest, answer-fits}
 use Rattle.planner.proofs.FileLaws.{given}
 use Rattle.planner.proofs.ListedLaws.{modest}
@@ -43,20 +45,20 @@ reduce-modest counts mins maxs optional rows g first room budget r = go (leb (le
     go false clashes = tt
     go true true = tt
     go true false =
-        let w = within counts takes.All (g .in-range) in
+        let w = within counts takes.Given (g .in-range) in
         modest (searchDay counts mins maxs optional rows) first room budget (w .choices) (w .slots) r
 
 module _ (file : List ℕ) (first room budget : ℕ) (r : room ≤ 1024) where
   answer-modest : Modest (answerOf file first room budget)
   unfolding answerOf
-  answer-modest = go (leb (length file) 26827) (fileJudged file) refl
+  answer-modest = go (leb (length file) longestFile) (fileJudged file) refl
     where
-      go : (short : Bool) (judged : Checked) → fileJudged file ≡ judged → Modest (cond short (judgedAnswer judged (dayAnswer (dayIn file) first room budget)) (refused 11))
+      go : (short : Bool) (judged : Verdict) → fileJudged file ≡ judged → Modest (cond short (judgedAnswer judged (dayAnswer (dayIn file) first room budget)) (refused 11))
       go false judged e = tt
-      go true (checked.Refused why) e = tt
-      go true checked.Good e = reduce-modest _ _ _ _ _ (given file e) first room budget r
+      go true (verdict.refused number carried) e = tt
+      go true (verdict.done value) e = reduce-modest _ _ _ _ _ (given file e) first room budget r
 
-  -- 'room up to 1,024': no text is longer than the pool that is lent for it
+  -- no text is longer than the pool that is lent for it
   pub text-fits : length (plansText file first room budget) ≤ longest
   unfolding plansText
   text-fits = answer-fits (answerOf file first room budget) answer-modest
@@ -68,18 +70,18 @@ answer-room answer m text e = let h = answer-fits answer m in omega (arith, h, e
 -- ---- the call
 
 module _ (file : List ℕ) (first room budget : ℕ) (pool : List ℕ) where
-  pub told-room : 1024 < room → outcome (told.Refused refusal.Count) pool ≡ toldOf file first room budget pool
-  unfolding toldOf
-  told-room h = rw (lt-leb _ _ h)
+  pub text-room : 1024 < room → outcome (refuse 1) pool ≡ textOf file first room budget pool
+  unfolding textOf textJudged
+  text-room h = rw (lt-leb _ _ h)
 
-  pub told-length : room ≤ 1024 → (length pool ≡ longest → ⊥) → outcome (told.Refused refusal.Length) pool ≡ toldOf file first room budget pool
-  unfolding toldOf
-  told-length r n = rw (le-leb _ _ r, ne-eqb _ _ n)
+  pub text-length : room ≤ 1024 → (length pool ≡ longest → ⊥) → outcome (refuse 2) pool ≡ textOf file first room budget pool
+  unfolding textOf textJudged
+  text-length r n = rw (le-leb _ _ r, ne-eqb _ _ n)
 
-  pub told-text : room ≤ 1024 → length pool ≡ longest → {cleared pool' : List ℕ} {size : ℕ} → cleared ≡ replicate (length pool) 0
-      → Put cleared 0 (plansText file first room budget) pool' size → outcome (told.Text size) pool' ≡ toldOf file first room budget pool
-  unfolding toldOf
-  told-text r e {cleared} {pool'} {size} z p =
+  pub text-made : room ≤ 1024 → length pool ≡ longest → {cleared pool' : List ℕ} {size : ℕ} → cleared ≡ replicate (length pool) 0
+      → Put cleared 0 (plansText file first room budget) pool' size → outcome (done size) pool' ≡ textOf file first room budget pool
+  unfolding textOf textJudged
+  text-made r e {cleared} {pool'} {size} z p =
       let n : size ≡ length (plansText file first room budget) = p .0 ∙ zero-add _ in
       let t : pool' ≡ pad longest (plansText file first room budget) =
       p .1
@@ -92,9 +94,21 @@ module _ (file : List ℕ) (first room budget : ℕ) (pool : List ℕ) where
   unfolding plansText
   text-of e = ap answerText e
 
-  -- no two outcomes fit the promise
-  pub one-outcome : {answer other : Told} {text rest : List ℕ} → outcome answer text ≡ toldOf file first room budget pool → outcome other rest ≡ toldOf file first room budget pool
-      → (answer ≡ other) × (text ≡ rest)
-  one-outcome p q =
-      let z = no-two p q in
-      (ap (λ (o : Outcome). o .answer) z, ap (λ (o : Outcome). o .pool) z)
+-- the call's answer, read back from what it tells
+abbrev pub madeOf : Told ℕ → Made
+madeOf (verdict.done size) = made.Text size
+madeOf (verdict.refused number carried) = made.Refused (refusalOf number carried)
+
+pub made-back : (answer : Made) → madeOf (madeTells answer) ≡ answer
+made-back (made.Text size) = refl
+made-back (made.Refused why) = ap made.Refused (refusal-back why)
+
+-- no two outcomes fit the promise of the text
+pub one-text : (file : List ℕ) (first room budget : ℕ) (pool : List ℕ) {answer other : Made} {text rest : List ℕ}
+    → outcome (madeTells answer) text ≡ textOf file first room budget pool → outcome (madeTells other) rest ≡ textOf file first room budget pool
+    → (answer ≡ other) × (text ≡ rest)
+one-text file first room budget pool = one-outcome madeTells madeOf made-back
+
+-- and none that of a number's
+pub one-number : (bytes : List ℕ) {a b : Number} → a ≡ numberIn bytes → b ≡ numberIn bytes → a ≡ b
+one-number bytes = no-two

@@ -8,59 +8,56 @@ use borrow.Author.Tests.{le-leb, lt-leb, eq-eqb}
 use lib.Dec.{leb}
 use lib.ListN.{length, getD, take, replicate, length-replicate}
 use lib.Seq.{take-at}
-use Rattle.lists.specs.All.{allOf}
+use Rattle.lists.specs.All.{allAtMost}
 use Rattle.lists.specs.Pool.{pad}
-use Rattle.lists.proofs.All.{each-allOf}
-use Rattle.lists.proofs.Below.{and-left, all-each}
+use Rattle.lists.proofs.Below.{and-left}
 use Rattle.lists.proofs.Flat.{length-list}
 use Rattle.lists.proofs.Pad.{length-pad}
 use Rattle.constraint.specs.Check.{countsInRange}
-use Rattle.constraint.specs.Refusal.{numberOf}
+use Rattle.constraint.specs.Refusal.{numberOf, carriedBy}
+use Rattle.constraint.specs.Told.{Told, done, refused, Verdict, good, unless, Outcome, outcome, judged}
 use Rattle.constraint.specs.declared.check.Counts.{Counts}
 use Rattle.constraint.specs.declared.check.Takes.the-variants as takes
-use Rattle.constraint.specs.declared.check.Checked.{Checked}
-use Rattle.constraint.specs.declared.check.Checked.the-variants.{Good, Refused}
 use Rattle.constraint.specs.declared.refusal.Refusal.{Refusal}
 use Rattle.constraint.proofs.CountLaws.{Within, within}
-use Rattle.day_file.specs.Day.{Parts, parts, rowCounts, countsKeep, levelsRise, lastLevel, allAtMost, rowsJudged, poolsFull, lengthsFull, padded}
-use Rattle.day_file.specs.File.{countsIn, listsIn, dayIn}
-use Rattle.day_file.specs.Calls.{unless, bodyJudged, fileJudged, Reading, reading, readingBy, readOf}
+use Rattle.constraint.proofs.ToldLaws.{done-is, refused-not-done, refused-as, unless-done}
+use Rattle.day_lists.specs.Levels.{levelsInRange, levelsRise, lastLevel}
+use Rattle.day_file.specs.Day.{Parts, parts, rowCounts, countsKeep, dayRowsJudged, poolsFull, lengthsFull, padded}
+use Rattle.day_file.specs.File.{countsIn, listsIn, dayIn, longestFile}
+use Rattle.day_file.specs.Calls.{bodyJudged, fileJudged, readTells, readOf}
 use Rattle.day_file.specs.declared.counts.DayCounts.{DayCounts}
 use Rattle.day_file.specs.declared.read.Read.{Read}
 use Rattle.day_file.specs.declared.read.Read.the-variants as read
-use Rattle.day_file.proofs.ReadLaws.{unless-test, unless-rest, good-head}
+use Rattle.day_file.proofs.ReadLaws.{good-head}
 use Rattle.day_file.proofs.DayLaws.{good-body}
-use Rattle.scheduling.specs.Check.{flagFits}
-use Rattle.planner.specs.Answer.{refused, reduceAnswer, dayAnswer, answerOf}
-use Rattle.planner.specs.Steps.{Given}
+use Rattle.planner.specs.Answer.{reduceAnswer, dayAnswer, answerOf}
+use Rattle.planner.specs.Answer as answer
+use Rattle.planner.specs.steps.Given.{Given}
 
 -- a good file holds a day
-module _ (file : List ℕ) (good : fileJudged file ≡ Good) where
+module _ (file : List ℕ) (is-good : fileJudged file ≡ good) where
   abbrev lists : Parts
   lists = listsIn file (countsIn file)
 
-  flags : allAtMost 1 (lists .optional) ≡ true → allOf flagFits (lists .optional) ≡ true
-  unfolding allAtMost flagFits
-  flags h =
-      each-allOf (λ flag. leb flag 1) (lists .optional) 0
-      (λ k l. all-each (length (lists .optional)) (λ i. leb (getD (lists .optional) i 0) 1) h k l)
-
   pub given : Given (rowCounts (countsIn file)) (lists .mins) (lists .maxs) (lists .optional) (lists .rows)
-  unfolding countsKeep bodyJudged rowsJudged listsIn
+  unfolding countsKeep bodyJudged dayRowsJudged listsIn
   given =
-      let body = good-body file good in
-      let levels = unless-rest (allAtMost 1 (lists .optional)) _ _ body in
-      let preferences = unless-rest (levelsRise (lists .levels)) _ _ levels in
       let counts = countsIn file in
-      let range = countsInRange (rowCounts counts) takes.All in
+      let range = countsInRange (rowCounts counts) takes.Given in
+      let rows = dayRowsJudged (dayIn file) in
+      let preferences = unless (allAtMost (lastLevel (lists .levels)) (lists .preferences)) 4 rows in
+      let levels = unless (levelsRise (lists .levels)) 3 preferences in
+      let a = unless-done (allAtMost 1 (lists .optional)) 13 levels (good-body file is-good) in
+      let b = unless-done (levelsRise (lists .levels)) 3 preferences (a .1) in
+      let c = unless-done (allAtMost (lastLevel (lists .levels)) (lists .preferences)) 4 rows (b .1) in
       record {
-        in-range = and-left range (leb 1 (counts .levels)) (and-left (range && leb 1 (counts .levels)) (leb (counts .levels) 64) (good-head file good .counts));
+        in-range = and-left range (levelsInRange (counts .levels)) (good-head file is-good .counts);
         mins-fit = length-list _ _;
         maxs-fit = length-list _ _;
         optional-fits = length-list _ _;
         rows-fit = length-list _ _;
-        rows-good = unless-rest (allAtMost (lastLevel (lists .levels)) (lists .preferences)) _ _ preferences;
-        flags-fit = flags (unless-test (allAtMost 1 (lists .optional)) _ _ body);
+        rows-good = c .1;
+        flags-fit = a .0;
       }
 
 -- the front of a padded pool is what was padded
@@ -70,52 +67,46 @@ front n size l e p = ap (take n) p ∙ take-at l (replicate (size - length l) 0)
 
 -- what the reader answers, its pools being full
 pub record Filled (file : List ℕ) (counts : DayCounts) (pools : Parts) : Type 0 where
-  pub good : fileJudged file ≡ Good
+  pub is-good : fileJudged file ≡ good
   pub counted : counts ≡ countsIn file
   pub filled : pools ≡ padded (listsIn file (countsIn file))
 
 module _ (file : List ℕ) (pools : Parts) (full : poolsFull pools ≡ true) where
-  by-file : readOf file pools ≡ readingBy (fileJudged file) (dayIn file) pools
+  abbrev read-well : Outcome DayCounts Parts
+  read-well = outcome (done (countsIn file)) (padded (listsIn file (countsIn file)))
+
+  by-file : readOf file pools ≡ judged (fileJudged file) pools read-well
   unfolding readOf
   by-file = rw full
 
-  pub read-filled : {counts : DayCounts} {pools' : Parts} → reading (read.Day counts) pools' ≡ readOf file pools → Filled file counts pools'
+  pub read-filled : {counts : DayCounts} {pools' : Parts} → outcome (done counts) pools' ≡ readOf file pools → Filled file counts pools'
   read-filled {counts} {pools'} e = go (fileJudged file) refl (e ∙ by-file)
     where
-      go : (c : Checked) → fileJudged file ≡ c → reading (read.Day counts) pools' ≡ readingBy c (dayIn file) pools → Filled file counts pools'
-      go Good g h =
-          let a : read.Day counts ≡ read.Day (countsIn file) = ap (λ (r : Reading). r .answer) h in
-          record { good = g; counted = cc; filled = ap (λ (r : Reading). r .pools) h }
-      go (Refused why) g h =
-          let a : read.Day counts ≡ read.Refused why = ap (λ (r : Reading). r .answer) h in
-          let z : _≡_ {A = ℕ} 0 1 = cc in
-          absurd (omega arith)
+      go : (v : Verdict) → fileJudged file ≡ v → outcome (done counts) pools' ≡ judged v pools read-well → Filled file counts pools'
+      go (done value) g h =
+          record { is-good = g; counted = done-is (ap (λ (o : Outcome DayCounts Parts). o .answer) h); filled = ap (λ (o : Outcome DayCounts Parts). o .buffers) h }
+      go (refused number carried) g h = absurd (refused-not-done (sym (ap (λ (o : Outcome DayCounts Parts). o .answer) h)))
 
-  pub read-refused : {why : Refusal} {pools' : Parts} → reading (read.Refused why) pools' ≡ readOf file pools → fileJudged file ≡ Refused why
-  read-refused {why} {pools'} e = go (fileJudged file) refl (e ∙ by-file)
+  pub read-refused : {number : ℕ} {carried : List ℕ} {pools' : Parts} → outcome (refused number carried) pools' ≡ readOf file pools
+      → fileJudged file ≡ refused number carried
+  read-refused {number} {carried} {pools'} e = go (fileJudged file) refl (e ∙ by-file)
     where
-      go : (c : Checked) → fileJudged file ≡ c → reading (read.Refused why) pools' ≡ readingBy c (dayIn file) pools → fileJudged file ≡ Refused why
-      go Good g h =
-          let a : read.Refused why ≡ read.Day (countsIn file) = ap (λ (r : Reading). r .answer) h in
-          let z : _≡_ {A = ℕ} 0 1 = cc in
-          absurd (omega arith)
-      go (Refused other) g h =
-          let a : read.Refused why ≡ read.Refused other = ap (λ (r : Reading). r .answer) h in
-          let b : why ≡ other = cc in
-          g ∙ ap Refused (sym b)
+      go : (v : Verdict) → fileJudged file ≡ v → outcome (refused number carried) pools' ≡ judged v pools read-well → fileJudged file ≡ refused number carried
+      go (done value) g h = absurd (refused-not-done (ap (λ (o : Outcome DayCounts Parts). o .answer) h))
+      go (refused other with-it) g h = g ∙ refused-as (sym (ap (λ (o : Outcome DayCounts Parts). o .answer) h))
 
 -- the answer to a file, by its length and its judgement
 module _ (file : List ℕ) (first room budget : ℕ) where
-  pub answer-long : 26827 < length file → refused 11 ≡ answerOf file first room budget
+  pub answer-long : longestFile < length file → answer.refused 11 ≡ answerOf file first room budget
   unfolding answerOf
   answer-long h = rw (lt-leb _ _ h)
 
-  module _ (short : length file ≤ 26827) where
-    pub answer-refused : {why : Refusal} → fileJudged file ≡ Refused why → refused (numberOf why) ≡ answerOf file first room budget
+  module _ (short : length file ≤ longestFile) where
+    pub answer-refused : {number : ℕ} {carried : List ℕ} → fileJudged file ≡ refused number carried → answer.refused number ≡ answerOf file first room budget
     unfolding answerOf
     answer-refused e = rw (le-leb _ _ short, e)
 
-    pub answer-day : fileJudged file ≡ Good → dayAnswer (dayIn file) first room budget ≡ answerOf file first room budget
+    pub answer-day : fileJudged file ≡ good → dayAnswer (dayIn file) first room budget ≡ answerOf file first room budget
     unfolding answerOf
     answer-day e = rw (le-leb _ _ short, e)
 
@@ -127,12 +118,12 @@ unfolding lengthsFull
 pools-full mins maxs optional levels preferences rows a b c d e f =
     rw (eq-eqb _ _ (sym a), eq-eqb _ _ (sym b), eq-eqb _ _ (sym c), eq-eqb _ _ (sym d), eq-eqb _ _ (sym e), eq-eqb _ _ (sym f))
 
-module _ (file : List ℕ) (pools : Parts) (full : poolsFull pools ≡ true) {result : Read} {pools' : Parts} (e : reading result pools' ≡ readOf file pools) where
+module _ (file : List ℕ) (pools : Parts) (full : poolsFull pools ≡ true) {result : Read} {pools' : Parts} (e : outcome (readTells result) pools' ≡ readOf file pools) where
   pub day-case : {counts : DayCounts} → result ≡ read.Day counts → Filled file counts pools'
-  day-case t = read-filled file pools full (ap (λ (r : Read). reading r pools') (sym t) ∙ e)
+  day-case t = read-filled file pools full (ap (λ (r : Read). outcome (readTells r) pools') (sym t) ∙ e)
 
-  pub refused-case : {why : Refusal} → result ≡ read.Refused why → fileJudged file ≡ Refused why
-  refused-case t = read-refused file pools full (ap (λ (r : Read). reading r pools') (sym t) ∙ e)
+  pub refused-case : {why : Refusal} → result ≡ read.Refused why → fileJudged file ≡ refused (numberOf why) (carriedBy why)
+  refused-case t = read-refused file pools full (ap (λ (r : Read). outcome (readTells r) pools') (sym t) ∙ e)
 
 -- what is lent of a filled pool: as much as the list is long
 module _ (n size : ℕ) (l pool : List ℕ) (e : length l ≡ n) (few : n ≤ size) (p : pool ≡ pad size l) where
@@ -141,10 +132,10 @@ module _ (n size : ℕ) (l pool : List ℕ) (e : length l ≡ n) (few : n ≤ si
 
 module _ (file : List ℕ) {counts : DayCounts} {mins maxs optional levels preferences rows : List ℕ} (f : Filled file counts (parts mins maxs optional levels preferences rows)) where
   day : Given (rowCounts (countsIn file)) (listsIn file (countsIn file) .mins) (listsIn file (countsIn file) .maxs) (listsIn file (countsIn file) .optional) (listsIn file (countsIn file) .rows)
-  day = given file (f .good)
+  day = given file (f .is-good)
 
-  range : Within (rowCounts (countsIn file)) takes.All
-  range = within (rowCounts (countsIn file)) takes.All (day .in-range)
+  range : Within (rowCounts (countsIn file)) takes.Given
+  range = within (rowCounts (countsIn file)) takes.Given (day .in-range)
 
   choices-are : counts .choices ≡ countsIn file .choices
   choices-are = ap (λ (c : DayCounts). c .choices) (f .counted)
@@ -201,6 +192,6 @@ module _ (file : List ℕ) {counts : DayCounts} {mins maxs optional levels prefe
     pub day-given : Given asked (take (counts .choices) mins) (take (counts .choices) maxs) (take (counts .choices) optional) (take (counts .rows) rows)
     day-given = rw (counts-are, mins-lent, maxs-lent, optional-lent, rows-lent) day
 
-    pub day-answer : length file ≤ 26827 → (first room budget : ℕ)
+    pub day-answer : length file ≤ longestFile → (first room budget : ℕ)
         → reduceAnswer asked (take (counts .choices) mins) (take (counts .choices) maxs) (take (counts .choices) optional) (take (counts .rows) rows) first room budget ≡ answerOf file first room budget
-    day-answer short first room budget = rw (counts-are, mins-lent, maxs-lent, optional-lent, rows-lent) (answer-day file first room budget short (f .good))
+    day-answer short first room budget = rw (counts-are, mins-lent, maxs-lent, optional-lent, rows-lent) (answer-day file first room budget short (f .is-good))

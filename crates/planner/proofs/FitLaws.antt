@@ -9,7 +9,7 @@ use lib.ListN.{length, take, drop, length-append}
 use lib.Seq.{take-at, drop-at}
 use Rattle.listing.proofs.PageLaws.{Sized, more}
 use Rattle.planner.specs.Text.{ascii, decimal, numberLine}
-use Rattle.planner.specs.Pages.{plansIn}
+use Rattle.planner.specs.steps.Pages.{plansIn}
 use Rattle.planner.specs.Answer.{Answer, listed, turns, clash, refused, placeText, planLine, planLines, answerText}
 use Rattle.planner.proofs.DecimalLaws.{decimal-length, decimal-short}
 

@@ -10,24 +10,24 @@ use lib.Dec.{leb}
 use lib.ListN.{length, take, drop, length-append, length-take, length-drop}
 use lib.Seq.{sets, sets-eq, length-sets, length-take-le}
 use Rattle.lists.proofs.Keep.{in-map, in-flatMap, kept-in}
-use Rattle.constraint.specs.Check.{countsInRange}
+use Rattle.constraint.specs.Check.{countsInRange, rowsJudged}
 use Rattle.constraint.specs.declared.refusal.Refusal.{Refusal}
-use Rattle.constraint.specs.declared.refusal.Refusal.the-variants as refusal
+use Rattle.constraint.specs.Told.{Told, done, refused, Verdict, good, unless, andThen, Outcome, outcome}
+use Rattle.constraint.proofs.ToldLaws.{done-is, refused-not-done, unless-done}
 use Rattle.constraint.specs.declared.check.Takes.the-variants as takes
-use Rattle.constraint.specs.declared.check.Checked.{Checked}
 use Rattle.constraint.proofs.CountLaws.{within}
-use Rattle.constraint.specs.declared.check.Checked.the-variants as checked
 use Rattle.scheduling.specs.Day.{Day}
+use Rattle.scheduling.specs.Check.{flagsJudged}
 use Rattle.scheduling.specs.Feasible.{feasible}
 use Rattle.listing.specs.Placements.{slotsFrom, places, placements, plans, page, total, nodes}
-use Rattle.listing.specs.Outcome.{Told, plansTold, turnsTold, refusedTold, listedTells, Outcome, outcome, judgeOf, listedOf, listOf}
+use Rattle.listing.specs.Outcome.{PageTold, plansTold, turnsTold, listedTells, lengthsFit, judgeOf, listedOf, listOf}
 use Rattle.listing.specs.declared.list_plans.Listed.{Listed}
 use Rattle.listing.specs.declared.list_plans.Listed.the-variants as listedCase
 use Rattle.listing.proofs.CallLaws.{good-told}
 use Rattle.listing.proofs.Members.{placement-length, sized-plans}
 use Rattle.listing.proofs.PageLaws.{Sized, none, more, page-length}
 use Rattle.planner.specs.Answer.{Answer, listed, turns, listAnswer, answerText}
-use Rattle.planner.specs.Pages.{plansIn}
+use Rattle.planner.specs.steps.Pages.{plansIn}
 use Rattle.planner.proofs.FitLaws.{Modest, answer-fits, plans-in}
 
 -- ---- parts of a list
@@ -121,9 +121,12 @@ module _ (day : Day) (first room budget : ℕ) where
 
   -- ---- the call on a judged day
 
-  module _ (buffer : List ℕ) (good : judgeOf day room (length buffer) ≡ checked.Good) where
-    told : {answer : Told} {buffer' : List ℕ} → outcome answer buffer' ≡ listOf day first room budget buffer → outcome answer buffer' ≡ listedOf day first room budget buffer
-    told e = e ∙ sym (good-told day first room budget buffer good)
+  module _ (buffer : List ℕ) (is-good : judgeOf day room (length buffer) ≡ good) where
+    abbrev Left : Type 0
+    Left = Outcome PageTold (List ℕ)
+
+    told : {answer : Told PageTold} {buffer' : List ℕ} → outcome answer buffer' ≡ listOf day first room budget buffer → outcome answer buffer' ≡ listedOf day first room budget buffer
+    told e = e ∙ sym (good-told day first room budget buffer is-good)
 
     pub record Lists (written all visited : ℕ) (buffer' : List ℕ) : Type 0 where
       pub answered : listed first all visited (page day first room) ≡ listAnswer day first room budget
@@ -131,53 +134,48 @@ module _ (day : Day) (first room budget : ℕ) where
       pub totals : all ≡ total day
       pub stored : buffer' ≡ sets buffer 0 (flatten (page day first room))
 
-    pub plans-listed : {written all visited : ℕ} {buffer' : List ℕ} → outcome (plansTold written all visited) buffer' ≡ listOf day first room budget buffer → Lists written all visited buffer'
+    -- what the listing leaves: the page, or nothing but that turns ran out
+    abbrev page-left : Left
+    page-left = outcome (done (plansTold (length (page day first room)) (total day) (nodes day))) (sets buffer 0 (flatten (page day first room)))
+
+    abbrev turns-left : Left
+    turns-left = outcome (done turnsTold) buffer
+
+    pub plans-listed : {written all visited : ℕ} {buffer' : List ℕ} → outcome (done (plansTold written all visited)) buffer' ≡ listOf day first room budget buffer → Lists written all visited buffer'
     unfolding listedOf listAnswer
     plans-listed {written} {all} {visited} {buffer'} e = go (leb (nodes day) budget) refl (told e)
       where
-        go : (b : Bool) → leb (nodes day) budget ≡ b
-            → outcome (plansTold written all visited) buffer' ≡ cond b (outcome (plansTold (length (page day first room)) (total day) (nodes day)) (sets buffer 0 (flatten (page day first room)))) (outcome turnsTold buffer)
-            → Lists written all visited buffer'
+        go : (b : Bool) → leb (nodes day) budget ≡ b → outcome (done (plansTold written all visited)) buffer' ≡ cond b page-left turns-left → Lists written all visited buffer'
         go true t h =
-            let a : plansTold written all visited ≡ plansTold (length (page day first room)) (total day) (nodes day) = ap (λ (o : Outcome). o .answer) h in
+            let a : plansTold written all visited ≡ plansTold (length (page day first room)) (total day) (nodes day) = done-is (ap (λ (o : Left). o .answer) h) in
             let w : written ≡ length (page day first room) = cc in
             let l : all ≡ total day = cc in
             let v : visited ≡ nodes day = cc in
-            record { answered = rw (t, l, v); pages = w; totals = l; stored = ap (λ (o : Outcome). o .buffer) h }
+            record { answered = rw (t, l, v); pages = w; totals = l; stored = ap (λ (o : Left). o .buffers) h }
         go false t h =
-            let a : plansTold written all visited ≡ turnsTold = ap (λ (o : Outcome). o .answer) h in
+            let a : plansTold written all visited ≡ turnsTold = done-is (ap (λ (o : Left). o .answer) h) in
             let z : _≡_ {A = ℕ} 0 1 = cc in
             absurd (omega arith)
 
-    pub turns-listed : {buffer' : List ℕ} → outcome turnsTold buffer' ≡ listOf day first room budget buffer → turns budget ≡ listAnswer day first room budget
+    pub turns-listed : {buffer' : List ℕ} → outcome (done turnsTold) buffer' ≡ listOf day first room budget buffer → turns budget ≡ listAnswer day first room budget
     unfolding listedOf listAnswer
     turns-listed {buffer'} e = go (leb (nodes day) budget) (told e)
       where
-        go : (b : Bool)
-            → outcome turnsTold buffer' ≡ cond b (outcome (plansTold (length (page day first room)) (total day) (nodes day)) (sets buffer 0 (flatten (page day first room)))) (outcome turnsTold buffer)
-            → turns budget ≡ cond b (listed first (total day) (nodes day) (page day first room)) (turns budget)
+        go : (b : Bool) → outcome (done turnsTold) buffer' ≡ cond b page-left turns-left → turns budget ≡ cond b (listed first (total day) (nodes day) (page day first room)) (turns budget)
         go true h =
-            let a : turnsTold ≡ plansTold (length (page day first room)) (total day) (nodes day) = ap (λ (o : Outcome). o .answer) h in
+            let a : turnsTold ≡ plansTold (length (page day first room)) (total day) (nodes day) = done-is (ap (λ (o : Left). o .answer) h) in
             let z : _≡_ {A = ℕ} 0 1 = cc in
             absurd (omega arith)
         go false h = refl
 
     -- a judged day is not refused
-    pub none-refused : {number : ℕ} {carried buffer' : List ℕ} → outcome (refusedTold number carried) buffer' ≡ listOf day first room budget buffer → ⊥
+    pub none-refused : {number : ℕ} {carried buffer' : List ℕ} → outcome (refused number carried) buffer' ≡ listOf day first room budget buffer → ⊥
     unfolding listedOf
     none-refused {number} {carried} {buffer'} e = go (leb (nodes day) budget) (told e)
       where
-        go : (b : Bool)
-            → outcome (refusedTold number carried) buffer' ≡ cond b (outcome (plansTold (length (page day first room)) (total day) (nodes day)) (sets buffer 0 (flatten (page day first room)))) (outcome turnsTold buffer)
-            → ⊥
-        go true h =
-            let a : refusedTold number carried ≡ plansTold (length (page day first room)) (total day) (nodes day) = ap (λ (o : Outcome). o .answer) h in
-            let z : _≡_ {A = ℕ} 0 1 = cc in
-            absurd (omega arith)
-        go false h =
-            let a : refusedTold number carried ≡ turnsTold = ap (λ (o : Outcome). o .answer) h in
-            let z : _≡_ {A = ℕ} 0 1 = cc in
-            absurd (omega arith)
+        go : (b : Bool) → outcome (refused number carried) buffer' ≡ cond b page-left turns-left → ⊥
+        go true h = refused-not-done (ap (λ (o : Left). o .answer) h)
+        go false h = refused-not-done (ap (λ (o : Left). o .answer) h)
 
     -- the plans of the page lie at the front of what is lent
     module _ (size : length buffer ≡ room * day .counts .choices) {written all visited : ℕ} {buffer' : List ℕ} (l : Lists written all visited buffer') where
@@ -201,17 +199,15 @@ module _ (day : Day) (first room budget : ℕ) where
 
 -- ---- the call as the text's maker makes it: a page of 65,536 bytes, of which it lends as many as the room asks for
 
-module _ (day : Day) (first room budget : ℕ) (good : judgeOf day room (room * day .counts .choices) ≡ checked.Good) (rooms : room ≤ 1024) (array : List ℕ) (full : 65536 ≡ length array) where
+module _ (day : Day) (first room budget : ℕ) (is-good : judgeOf day room (room * day .counts .choices) ≡ good) (rooms : room ≤ 1024) (array : List ℕ) (full : 65536 ≡ length array) where
   abbrev size : ℕ
   size = room * day .counts .choices
 
   few : (day .counts .choices ≤ 64) × (day .counts .slots ≤ 24)
   unfolding judgeOf
-  few = let w = within (day .counts) takes.Scheduling (counted (countsInRange (day .counts) takes.Scheduling) _ good) in (w .choices, w .slots)
-    where
-      counted : (b : Bool) (next : Checked) → cond b next (checked.Refused refusal.Count) ≡ checked.Good → b ≡ true
-      counted true next h = refl
-      counted false next h = let z : _≡_ {A = ℕ} 0 1 = cc in absurd (omega arith)
+  few =
+      let rest = unless (lengthsFit day room size) 2 (andThen (rowsJudged (day .counts) takes.Scheduling (day .rows)) (flagsJudged (day .optional))) in
+      let w = within (day .counts) takes.Scheduling (unless-done (countsInRange (day .counts) takes.Scheduling) 1 rest is-good .0) in (w .choices, w .slots)
 
   pub page-size : size ≤ 65536
   page-size =
@@ -225,8 +221,8 @@ module _ (day : Day) (first room budget : ℕ) (good : judgeOf day room (room * 
   pub lent-length : length (take size array) ≡ size
   lent-length = length-take-le size array page-fits
 
-  lent-good : judgeOf day room (length (take size array)) ≡ checked.Good
-  lent-good = ap (judgeOf day room) lent-length ∙ good
+  lent-good : judgeOf day room (length (take size array)) ≡ good
+  lent-good = ap (judgeOf day room) lent-length ∙ is-good
 
   -- a text of 288,836 bytes has room for the answer
   pub answer-room : {answer : Answer} (text : List ℕ) → answer ≡ listAnswer day first room budget → length text ≡ 288836 → 0 + length (answerText answer) ≤ length text

@@ -9,8 +9,8 @@ use lib.ListN.{length, take, drop, length-append}
 use lib.Seq.{drop-drop}
 use Rattle.lists.proofs.Stores.{Stores, stores-start, stores-part, stores-end}
 use Rattle.planner.specs.Answer.{planLine, planLines}
-use Rattle.planner.specs.Pages.{plansIn}
-use Rattle.planner.specs.Put.{Fits, Put}
+use Rattle.planner.specs.steps.Pages.{plansIn}
+use Rattle.planner.specs.steps.Put.{Fits, Put}
 
 -- plan i lies within the page
 pub plan-within : (count choices room i : ℕ) → i < count → count * choices ≤ room → i * choices + choices ≤ room

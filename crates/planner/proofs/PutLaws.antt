@@ -6,7 +6,7 @@ use native.Mathlib.Omega.{arith}
 use lib.ListN.{length, getD, drop, length-append}
 use lib.Seq.{length-sets}
 use Rattle.lists.proofs.Stores.{sets-append, Each, each-room}
-use Rattle.planner.specs.Put.{Fits, Put}
+use Rattle.planner.specs.steps.Put.{Fits, Put}
 
 -- the length of two parts
 both : {whole : List ℕ} (p q : List ℕ) → whole ≡ p ++ q → length whole ≡ length p + length q

@@ -11,15 +11,16 @@ use lib.Seq.{take-at}
 use Rattle.lists.specs.Pool.{pad}
 use Rattle.lists.proofs.Pad.{length-pad}
 use Rattle.lists.proofs.Sorted.{length-unique}
-use Rattle.constraint.specs.Check.{countsInRange, mostRows, rowsOf}
+use Rattle.constraint.specs.Check.{countsInRange, mostRows, rowsJudged}
 use Rattle.constraint.specs.Refusal.{numberOf, carriedBy}
+use Rattle.constraint.specs.Told.{Told, done, refused, good, refuse, Outcome, outcome}
+use Rattle.constraint.proofs.ToldLaws.{done-is, refused-not-done, refused-number}
 use Rattle.constraint.specs.declared.check.Counts.{Counts}
 use Rattle.constraint.specs.declared.check.Takes.the-variants as takes
-use Rattle.constraint.specs.declared.check.Checked.the-variants as checked
 use Rattle.constraint.specs.declared.refusal.Refusal.{Refusal}
 use Rattle.constraint.proofs.CountLaws.{within}
 use Rattle.constraints.specs.Turn.{clashOf}
-use Rattle.constraints.specs.Reduction.{expanded, reducedRows, searchList, rosterList, Outcome, done, refused, tells, Left, left, reductionOf, reduceOf}
+use Rattle.constraints.specs.Reduction.{expanded, reducedRows, searchList, rosterList, reducedTells, reductionOf, reduceOf}
 use Rattle.constraints.specs.declared.Reduction.{Reduction}
 use Rattle.constraints.specs.declared.Reduced.{Reduced}
 use Rattle.constraints.specs.declared.Reduced.the-variants as reducedCase
@@ -29,7 +30,7 @@ use Rattle.listing.specs.Outcome.{lengthsFit, judgeOf}
 use Rattle.listing.proofs.JudgeLaws.{buffer-decides, judge-good}
 use Rattle.planner.specs.Answer.{Answer, clash, withRows, searchDay, listAnswer, reduceAnswer}
 use Rattle.planner.specs.Answer as answer
-use Rattle.planner.specs.Steps.{Given}
+use Rattle.planner.specs.steps.Given.{Given}
 use Rattle.planner.proofs.SearchLaws.{search-good}
 
 module _ (counts : Counts) (mins maxs optional rows : List ℕ) (g : Given counts mins maxs optional rows) where
@@ -37,6 +38,10 @@ module _ (counts : Counts) (mins maxs optional rows : List ℕ) (g : Given count
   reduces : (pool : List ℕ) → length pool ≡ 1024 → reduceOf counts rows pool ≡ reductionOf counts rows
   unfolding reduceOf
   reduces pool e = rw (g .in-range, eq-eqb _ _ (g .rows-fit), eq-eqb _ _ e, g .rows-good)
+
+  -- what a reduction with room for its rows hands back
+  abbrev whole : Reduction
+  whole = record { count = length (reducedRows counts rows); clash = clashOf rows }
 
   -- how many rows there are, whether they clash, and the pool
   pub record Reduces (count : ℕ) (clashes : Bool) (pool : List ℕ) : Type 0 where
@@ -46,37 +51,33 @@ module _ (counts : Counts) (mins maxs optional rows : List ℕ) (g : Given count
     pub held : pool ≡ pad 1024 (reducedRows counts rows)
 
   module _ (pool : List ℕ) (long : length pool ≡ 1024) where
-    pub reduced-rows : {count : ℕ} {clashes : Bool} {pool' : List ℕ} → left (done count clashes) pool' ≡ reduceOf counts rows pool → Reduces count clashes pool'
+    pub reduced-rows : {reduction : Reduction} {pool' : List ℕ} → outcome (done reduction) pool' ≡ reduceOf counts rows pool → Reduces (reduction .count) (reduction .clash) pool'
     unfolding reductionOf
-    reduced-rows {count} {clashes} {pool'} e = go (leb (length (expanded counts rows)) 1024) refl (e ∙ reduces pool long)
+    reduced-rows {reduction} {pool'} e = go (leb (length (expanded counts rows)) 1024) refl (e ∙ reduces pool long)
       where
         go : (b : Bool) → leb (length (expanded counts rows)) 1024 ≡ b
-            → left (done count clashes) pool' ≡ cond b (left (done (length (reducedRows counts rows)) (clashOf rows)) (pad 1024 (reducedRows counts rows))) (left (refused 6 []) (replicate 1024 0))
-            → Reduces count clashes pool'
+            → outcome (done reduction) pool' ≡ cond b (outcome (done whole) (pad 1024 (reducedRows counts rows))) (outcome (refuse 6) (replicate 1024 0))
+            → Reduces (reduction .count) (reduction .clash) pool'
         go true t h =
-            let a : done count clashes ≡ done (length (reducedRows counts rows)) (clashOf rows) = ap (λ (l : Left). l .answer) h in
-            record { few = t; counted = cc; flagged = cc; held = ap (λ (l : Left). l .pool) h }
-        go false t h =
-            let a : done count clashes ≡ refused 6 [] = ap (λ (l : Left). l .answer) h in
-            let z : _≡_ {A = ℕ} 0 1 = cc in
-            absurd (omega arith)
+            let a : reduction ≡ whole = done-is (ap (λ (o : Outcome Reduction (List ℕ)). o .answer) h) in
+            record {
+              few = t;
+              counted = ap (λ (r : Reduction). r .count) a;
+              flagged = ap (λ (r : Reduction). r .clash) a;
+              held = ap (λ (o : Outcome Reduction (List ℕ)). o .buffers) h;
+            }
+        go false t h = absurd (refused-not-done (sym (ap (λ (o : Outcome Reduction (List ℕ)). o .answer) h)))
 
-    pub reduced-refused : {number : ℕ} {carried pool' : List ℕ} (first room budget : ℕ) → left (refused number carried) pool' ≡ reduceOf counts rows pool
+    pub reduced-refused : {number : ℕ} {carried pool' : List ℕ} (first room budget : ℕ) → outcome (refused number carried) pool' ≡ reduceOf counts rows pool
         → answer.refused number ≡ reduceAnswer counts mins maxs optional rows first room budget
     unfolding reductionOf reduceAnswer
     reduced-refused {number} {carried} {pool'} first room budget e = go (leb (length (expanded counts rows)) 1024) (e ∙ reduces pool long)
       where
         go : (b : Bool)
-            → left (refused number carried) pool' ≡ cond b (left (done (length (reducedRows counts rows)) (clashOf rows)) (pad 1024 (reducedRows counts rows))) (left (refused 6 []) (replicate 1024 0))
+            → outcome (refused number carried) pool' ≡ cond b (outcome (done whole) (pad 1024 (reducedRows counts rows))) (outcome (refuse 6) (replicate 1024 0))
             → answer.refused number ≡ cond b (cond (clashOf rows) clash (listAnswer (searchDay counts mins maxs optional rows) first room budget)) (answer.refused 6)
-        go true h =
-            let a : refused number carried ≡ done (length (reducedRows counts rows)) (clashOf rows) = ap (λ (l : Left). l .answer) h in
-            let z : _≡_ {A = ℕ} 0 1 = cc in
-            absurd (omega arith)
-        go false h =
-            let a : refused number carried ≡ refused 6 [] = ap (λ (l : Left). l .answer) h in
-            let n : number ≡ 6 = cc in
-            ap answer.refused n
+        go true h = absurd (refused-not-done (ap (λ (o : Outcome Reduction (List ℕ)). o .answer) h))
+        go false h = ap answer.refused (refused-number (ap (λ (o : Outcome Reduction (List ℕ)). o .answer) h))
 
   module _ {count : ℕ} {clashes : Bool} {pool : List ℕ} (r : Reduces count clashes pool) where
     -- a clash
@@ -120,27 +121,27 @@ module _ (counts : Counts) (mins maxs optional rows : List ℕ) (g : Given count
     search-front {searches} e =
         ap (take searches) (r .held ∙ ap (pad 1024) parts ∙ append-assoc list (rosterList (reducedRows counts rows)) _) ∙ take-at list _ searches (sym e)
 
-  -- 'the roster's': what the listing takes of it is good
+  -- the listing refuses no day that was read and reduced
   pub search-judged : (room : ℕ) → length (searchList (reducedRows counts rows)) ≤ 1024
-      → judgeOf (searchDay counts mins maxs optional rows) room (room * counts .choices) ≡ checked.Good
+      → judgeOf (searchDay counts mins maxs optional rows) room (room * counts .choices) ≡ good
   unfolding searchDay countsInRange
   search-judged room few =
-      let w = within counts takes.All (g .in-range) in
+      let w = within counts takes.Given (g .in-range) in
       let day = searchDay counts mins maxs optional rows in
       let size = room * counts .choices in
       sym (judge-good day room size (rw (le-leb _ _ (w .choices), le-leb _ _ (w .slots), le-leb _ _ (w .choosers), le-leb _ _ few))
       (sym (buffer-decides day room size (g .mins-fit) (g .maxs-fit) (g .optional-fits) refl) ∙ eq-eqb size size refl)
-      (search-good counts rows (length (searchList (reducedRows counts rows))) (g .in-range) (g .rows-good))
+      (sym (search-good counts rows (length (searchList (reducedRows counts rows))) (g .in-range) (g .rows-good)))
       (g .flags-fit))
 
   -- ---- the call as the text's maker makes it
 
-  module _ {result : Reduced} (pool : List ℕ) (long : 1024 ≡ length pool) {pool' : List ℕ} (e : left (tells result) pool' ≡ reduceOf counts rows pool) where
+  module _ {result : Reduced} (pool : List ℕ) (long : 1024 ≡ length pool) {pool' : List ℕ} (e : outcome (reducedTells result) pool' ≡ reduceOf counts rows pool) where
     pub rows-case : {reduction : Reduction} → result ≡ reducedCase.Rows reduction → Reduces (reduction .count) (reduction .clash) pool'
-    rows-case t = reduced-rows pool (sym long) (ap (λ (r : Reduced). left (tells r) pool') (sym t) ∙ e)
+    rows-case t = reduced-rows pool (sym long) (ap (λ (r : Reduced). outcome (reducedTells r) pool') (sym t) ∙ e)
 
     pub refused-case : {why : Refusal} (first room budget : ℕ) → result ≡ reducedCase.Refused why → answer.refused (numberOf why) ≡ reduceAnswer counts mins maxs optional rows first room budget
-    refused-case first room budget t = reduced-refused pool (sym long) first room budget (ap (λ (r : Reduced). left (tells r) pool') (sym t) ∙ e)
+    refused-case first room budget t = reduced-refused pool (sym long) first room budget (ap (λ (r : Reduced). outcome (reducedTells r) pool') (sym t) ∙ e)
 
   -- the day that is listed: its rows are as many as were counted
   module _ {count : ℕ} {clashes : Bool} {pool : List ℕ} (r : Reduces count clashes pool) {searches : ℕ} (e : searches ≡ length (searchList (take count pool))) where
@@ -156,7 +157,7 @@ module _ (counts : Counts) (mins maxs optional rows : List ℕ) (g : Given count
     pub searches-fit : searches ≤ length pool
     searches-fit = let h = search-fits r in let f = count-fits r in let l = pool-length r in omega (arith, h, f, l, searches-are)
 
-    pub day-judged : (room : ℕ) → judgeOf (dayOf (withRows counts searches) mins maxs optional (take searches pool)) room (room * counts .choices) ≡ checked.Good
+    pub day-judged : (room : ℕ) → judgeOf (dayOf (withRows counts searches) mins maxs optional (take searches pool)) room (room * counts .choices) ≡ good
     day-judged room =
         ap (λ (d : Day). judgeOf d room (room * counts .choices)) day-is
         ∙ search-judged room (let h = search-fits r in let f = count-fits r in omega (arith, h, f))

@@ -11,13 +11,13 @@ use lib.ListN.{length, getD, drop, length-append, drop-of-length-le}
 use Rattle.lists.specs.Keep.{keep}
 use Rattle.lists.proofs.Below.{and-left, and-right}
 use Rattle.lists.proofs.Keep.{drop-at-place, keep-append, kept-in}
-use Rattle.constraint.specs.Check.{countsInRange, columnHolds, rowKeeps, rowsOf}
+use Rattle.constraint.specs.Check.{countsInRange, columnHolds, rowKeeps, rowsJudged}
 use Rattle.constraint.specs.Kind.{columnsOf}
 use Rattle.constraint.specs.Row.{rowOf}
 use Rattle.constraint.specs.declared.check.Counts.{Counts}
 use Rattle.constraint.specs.declared.check.Takes.{Takes}
 use Rattle.constraint.specs.declared.check.Takes.the-variants as takes
-use Rattle.constraint.specs.declared.check.Checked.the-variants as checked
+use Rattle.constraint.specs.Told.{good}
 use Rattle.constraint.specs.declared.kind.Name.{Name}
 use Rattle.constraint.specs.declared.kind.Name.the-variants as name
 use Rattle.constraint.specs.declared.row.Row.{Row}
@@ -113,8 +113,8 @@ taken-searched counts number t s =
     t
 
 -- the search's list of a judged day is judged good
-pub search-good : (counts : Counts) (rows : List ℕ) (n : ℕ) → countsInRange counts takes.All ≡ true → rowsOf counts takes.All rows ≡ checked.Good
-    → rowsOf (withRows counts n) takes.Scheduling (searchList (reducedRows counts rows)) ≡ checked.Good
+pub search-good : (counts : Counts) (rows : List ℕ) (n : ℕ) → countsInRange counts takes.Given ≡ true → rowsJudged counts takes.Given rows ≡ good
+    → rowsJudged (withRows counts n) takes.Scheduling (searchList (reducedRows counts rows)) ≡ good
 unfolding searchList
 search-good counts rows n c g =
     each-good (withRows counts n) takes.Scheduling (keep searchedRow (reducedRows counts rows))

@@ -1,14 +1,13 @@
 -- The text of `plans` as a call: its two refusals, its answer and its pool.
-use mathlib.Core.Bool.{cond}
 use mathlib.Core.List.{List}
 use Prim.Native.Nat.{ℕ}
 use lib.Dec.{eqb, leb}
 use lib.ListN.{length}
 use Rattle.lists.specs.Pool.{pad}
-use Rattle.constraint.specs.declared.refusal.Refusal.the-variants as refusal
+use Rattle.constraint.specs.Told.{Told, done, Verdict, good, refusalTells, unless, Outcome, outcome, judged}
 use Rattle.planner.specs.Answer.{answerOf, answerText}
-use Rattle.planner.specs.declared.plans.Told.{Told}
-use Rattle.planner.specs.declared.plans.Told.the-variants as told
+use Rattle.planner.specs.declared.plans.Made.{Made}
+use Rattle.planner.specs.declared.plans.Made.the-variants as made
 
 -- the whole text that `plans` prints for a file
 unfoldable pub plansText : List ℕ → ℕ → ℕ → ℕ → List ℕ
@@ -18,19 +17,17 @@ plansText file first room budget = answerText (answerOf file first room budget)
 abbrev pub longest : ℕ
 longest = 288836
 
--- what the call answers, and the pool
-pub record Outcome : Type 0 where
-  pub answer : Told
-  pub pool : List ℕ
+-- what the call's answer tells: how many bytes the text takes
+abbrev pub madeTells : Made → Told ℕ
+madeTells (made.Text size) = done size
+madeTells (made.Refused why) = refusalTells why
 
-abbrev pub outcome : Told → List ℕ → Outcome
-outcome answer pool = record { answer = answer; pool = pool }
+-- 1 for a room over 1,024, 2 for a pool that isn't lent at its full limit
+unfoldable pub textJudged : ℕ → ℕ → Verdict
+textJudged room size = unless (leb room 1024) 1 (unless (eqb size longest) 2 good)
 
--- 1 for a 'room over the limit', 2 for a pool that isn't lent at its full limit, both with the pool untouched; else the text, and zeros after it
-unfoldable pub toldOf : List ℕ → ℕ → ℕ → ℕ → List ℕ → Outcome
-toldOf file first room budget pool =
-    cond (leb room 1024)
-    (cond (eqb (length pool) longest)
-    (outcome (told.Text (length (plansText file first room budget))) (pad longest (plansText file first room budget)))
-    (outcome (told.Refused refusal.Length) pool))
-    (outcome (told.Refused refusal.Count) pool)
+-- the text, and zeros after it; a refusal leaves the pool untouched
+unfoldable pub textOf : List ℕ → ℕ → ℕ → ℕ → List ℕ → Outcome ℕ (List ℕ)
+textOf file first room budget pool =
+    judged (textJudged room (length pool)) pool
+    (outcome (done (length (plansText file first room budget))) (pad longest (plansText file first room budget)))

@@ -1,7 +1,5 @@
 pub mod Text
 pub mod Number
-pub mod Put
 pub mod Answer
-pub mod Pages
-pub mod Steps
 pub mod Calls
+pub mod steps

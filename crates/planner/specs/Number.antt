@@ -1,4 +1,4 @@
--- A number read from its digits: 'An argument that is no number' is told from one that is.
+-- A number read from its digits: an argument that is no number is told from one that is.
 use mathlib.Core.Bool.{Bool, true, false, cond, _&&_}
 use mathlib.Core.List.{List, [], _∷_}
 use Prim.Native.Nat.{ℕ, _+_, _*_, _-_, _^_}

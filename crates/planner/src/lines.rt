@@ -9,8 +9,8 @@ ghost use Prim.Native.Nat.{_+_, _*_, _≤_, _<_, _^_};
 ghost use lib.ListN.{length};
 ghost use Rattle.constraint.specs.Refusal.{numberOf};
 ghost use Rattle.planner.specs.Answer.{placeText, planLine, planLines, answerText, listed, turns, clash, refused};
-ghost use Rattle.planner.specs.Put.{Fits, Put};
-ghost use Rattle.planner.specs.Pages.{plansIn};
+ghost use Rattle.planner.specs.steps.Put.{Fits, Put};
+ghost use Rattle.planner.specs.steps.Pages.{plansIn};
 
 // One place of a plan: a slot, or `out`.
 fn put_place(text: &mut [u8], at: usize, place: u8) -> usize

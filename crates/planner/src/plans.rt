@@ -1,10 +1,9 @@
 // The program `plans`: a whole file and three numbers in, the whole text out.
+use super::blank;
 use super::lines::put_clash;
 use super::lines::put_listed;
 use super::lines::put_refused;
 use super::lines::put_turns;
-use super::pools;
-use super::put::clear;
 use super::search_list::search_count;
 use constraint::check::Counts;
 use constraint::refusal::Refusal;
@@ -12,30 +11,29 @@ use constraints::Reduced;
 use constraints::reduce;
 use day_file::read::Read;
 use day_file::read::read_day;
+use day_file::word::LONGEST_FILE;
 use listing::list_plans::Listed;
 use listing::list_plans::list_plans;
+use pools::clear_bytes;
 ghost use mathlib.Core.Path.{_≡_};
 ghost use Prim.Native.Nat.{_*_, _≤_};
 ghost use lib.ListN.{length};
-ghost use Rattle.constraint.specs.declared.check.Checked.the-variants as checked;
+ghost use Rattle.constraint.specs.Told.{good, outcome};
 ghost use Rattle.scheduling.specs.Day.{dayOf};
 ghost use Rattle.listing.specs.Outcome.{judgeOf};
 ghost use Rattle.planner.specs.Answer.{listAnswer, reduceAnswer, answerText};
-ghost use Rattle.planner.specs.Calls.{plansText, longest, outcome, toldOf};
-ghost use Rattle.planner.specs.Put.{Put};
-ghost use Rattle.planner.specs.Steps.{Given};
+ghost use Rattle.planner.specs.Calls.{plansText, longest, madeTells, textOf};
+ghost use Rattle.planner.specs.steps.Put.{Put};
+ghost use Rattle.planner.specs.steps.Given.{Given};
 
-// 'room up to 1,024'.
+// The most plans that a page of the program may have.
 pub const MOST_ROOM: u64 = 1024;
 
 // The length of the pool lent for a text: three lines of 68 bytes in all, and 1,024 plans of 64 places at 282 bytes.
 pub const LONGEST_TEXT: usize = 288_836;
 
-// 'over 26,827 bytes: 11'.
-pub const LONGEST_FILE: usize = 26_827;
-
 // How many bytes the text takes, or why there is none.
-pub enum Told {
+pub enum Made {
     Text(usize),
     Refused(Refusal),
 }
@@ -52,10 +50,10 @@ fn put_plans_of(
     budget: u64,
     text: &mut [u8],
 ) -> usize
-    requires { ⌜ judgeOf (dayOf counts (now mins) (now maxs) (now optional) (now rows)) room (room * counts .choices) ≡ checked.Good ⌝ ∗ ⌜ room ≤ 1024 ⌝ ∗ ⌜ length (now text) ≡ longest ⌝ }
+    requires { ⌜ judgeOf (dayOf counts (now mins) (now maxs) (now optional) (now rows)) room (room * counts .choices) ≡ good ⌝ ∗ ⌜ room ≤ 1024 ⌝ ∗ ⌜ length (now text) ≡ longest ⌝ }
     ensures { λ r. ⌜ Put (now (text .entry)) 0 (answerText (listAnswer (dayOf counts (now (mins .entry)) (now (maxs .entry)) (now (optional .entry)) (now (rows .entry))) first room budget)) (now (text .exit)) r ⌝ }
 {
-    let mut buffer = pools::page();
+    let mut buffer = blank::page();
     let size = room as usize * counts.choices;
     let listed = list_plans(
         counts,
@@ -102,7 +100,7 @@ fn put_day(
     requires { ⌜ Given counts (now mins) (now maxs) (now optional) (now rows) ⌝ ∗ ⌜ room ≤ 1024 ⌝ ∗ ⌜ length (now text) ≡ longest ⌝ }
     ensures { λ r. ⌜ Put (now (text .entry)) 0 (answerText (reduceAnswer counts (now (mins .entry)) (now (maxs .entry)) (now (optional .entry)) (now (rows .entry)) first room budget)) (now (text .exit)) r ⌝ }
 {
-    let mut pool = pools::reduced_rows();
+    let mut pool = blank::reduced_rows();
     let reduced = reduce(counts, rows, &mut pool);
     match reduced {
         Reduced::Rows(reduction) => {
@@ -140,12 +138,12 @@ fn put_file(file: &[u8], first: u64, room: u64, budget: u64, text: &mut [u8]) ->
     if LONGEST_FILE < file.len() {
         return put_refused(text, Refusal::FileLength);
     }
-    let mut mins = pools::words();
-    let mut maxs = pools::words();
-    let mut optional = pools::flags();
-    let mut levels = pools::words();
-    let mut preferences = pools::preferences();
-    let mut rows = pools::given_rows();
+    let mut mins = blank::words();
+    let mut maxs = blank::words();
+    let mut optional = blank::flags();
+    let mut levels = blank::words();
+    let mut preferences = blank::preferences();
+    let mut rows = blank::given_rows();
     let read = read_day(
         file,
         &mut mins,
@@ -172,15 +170,15 @@ fn put_file(file: &[u8], first: u64, room: u64, budget: u64, text: &mut [u8]) ->
 }
 
 // The whole text that the program prints for a file, from the front of the lent pool.
-pub fn plans_text(file: &[u8], first: u64, room: u64, budget: u64, text: &mut [u8]) -> Told
-    ensures { λ r. ⌜ outcome r (now (text .exit)) ≡ toldOf (now (file .entry)) first room budget (now (text .entry)) ⌝ }
+pub fn plans_text(file: &[u8], first: u64, room: u64, budget: u64, text: &mut [u8]) -> Made
+    ensures { λ r. ⌜ outcome (madeTells r) (now (text .exit)) ≡ textOf (now (file .entry)) first room budget (now (text .entry)) ⌝ }
 {
     if MOST_ROOM < room {
-        return Told::Refused(Refusal::Count);
+        return Made::Refused(Refusal::Count);
     }
     if text.len() != LONGEST_TEXT {
-        return Told::Refused(Refusal::Length);
+        return Made::Refused(Refusal::Length);
     }
-    clear(text);
-    Told::Text(put_file(file, first, room, budget, text))
+    clear_bytes(text);
+    Made::Text(put_file(file, first, room, budget, text))
 }

@@ -1,19 +1,7 @@
 // Putting a text into a lent pool of bytes, one part after another: each call says where the next part goes.
 ghost use mathlib.Core.Path.{_≡_};
-ghost use lib.ListN.{length, replicate};
 ghost use Rattle.planner.specs.Text.{decimal, numberLine};
-ghost use Rattle.planner.specs.Put.{Fits, Put};
-
-// A pool with every byte zero.
-pub(crate) fn clear(text: &mut [u8])
-    ensures { λ _. ⌜ now (text .exit) ≡ replicate (length (now (text .entry))) 0 ⌝ }
-{
-    let mut i = 0;
-    while i < text.len() {
-        text[i] = 0;
-        i += 1;
-    }
-}
+ghost use Rattle.planner.specs.steps.Put.{Fits, Put};
 
 // Bytes as they are.
 pub(crate) fn put_bytes(text: &mut [u8], at: usize, bytes: &[u8]) -> usize

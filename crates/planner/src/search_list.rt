@@ -1,4 +1,5 @@
 // The search's part of a reduction: its rows of kinds 1 to 6, which stand before the roster's.
+use constraint::kind::Kind;
 use constraint::row::Row;
 ghost use mathlib.Core.Path.{_≡_};
 ghost use mathlib.Core.List.{[], _∷_};
@@ -11,10 +12,10 @@ fn search_one(number: u64) -> usize
     ensures { λ r. ⌜ (r ≡ length (searchList (number ∷ []))) × (r ≤ 1) ⌝ }
 {
     let row = Row::of(number);
-    if row.kind < 1 {
+    if row.kind < Kind::CHOICE_IS_IN_SLOT {
         return 0;
     }
-    if 6 < row.kind {
+    if Kind::SLOT_HAS_LIMITED_SIZE < row.kind {
         return 0;
     }
     1

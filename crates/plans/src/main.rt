@@ -5,12 +5,12 @@ use libc::STDOUT_FILENO;
 use planner::number::Number;
 use planner::number::number_of;
 use planner::plans::LONGEST_TEXT;
-use planner::plans::Told;
+use planner::plans::Made;
 use planner::plans::plans_text;
 ghost use mathlib.Core.Path.{_≡_};
 ghost use lib.ListN.{length};
 
-// 'by default 0, 100 and 100,000,000'.
+// What is left out counts as these (docs/PLANS.md).
 const FIRST: u64 = 0;
 
 const ROOM: u64 = 100;
@@ -69,8 +69,8 @@ fn list(first: u64, room: u64, budget: u64) {
     let mut text = text_pool();
     let told = plans_text(&file[..size], first, room, budget, &mut text);
     match told {
-        Told::Text(size) => write_text(&text, size),
-        Told::Refused(_) => say_expected(),
+        Made::Text(size) => write_text(&text, size),
+        Made::Refused(_) => say_expected(),
     }
 }
 

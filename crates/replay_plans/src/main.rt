@@ -11,7 +11,7 @@ use cases::same;
 use cases::word;
 use constraint::refusal::Refusal;
 use planner::plans::LONGEST_TEXT;
-use planner::plans::Told;
+use planner::plans::Made;
 use planner::plans::plans_text;
 ghost use mathlib.Core.Path.{_≡_};
 ghost use lib.ListN.{length};
@@ -64,10 +64,10 @@ fn refusal_agrees(bytes: &[u8], at: usize, why: Refusal, text: &[u8]) -> bool {
 }
 
 // Whether the outcome and the pool are what stands from a place on.
-fn told_agrees(bytes: &[u8], at: usize, told: Told, text: &[u8]) -> bool {
+fn told_agrees(bytes: &[u8], at: usize, told: Made, text: &[u8]) -> bool {
     match told {
-        Told::Text(size) => text_agrees(bytes, at, size, text),
-        Told::Refused(why) => refusal_agrees(bytes, at, why, text),
+        Made::Text(size) => text_agrees(bytes, at, size, text),
+        Made::Refused(why) => refusal_agrees(bytes, at, why, text),
     }
 }
 

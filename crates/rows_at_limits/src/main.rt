@@ -54,7 +54,7 @@ fn signed(extra: u16) {
 
 fn takes_of(i: usize) -> Takes {
     match i {
-        0 => Takes::All,
+        0 => Takes::Given,
         1 => Takes::Scheduling,
         _ => Takes::Assignment,
     }

@@ -7,23 +7,20 @@ use native.Mathlib.Omega.{arith}
 use borrow.Author.Tests.{lt-ltb, le-ltb, le-leb, lt-leb, eq-eqb, ne-eqb, eqb-true}
 use lib.Dec.{eqb, ltb, leb}
 use lib.ListN.{length, getD, drop}
-use Rattle.lists.specs.All.{allOf}
+use Rattle.lists.specs.All.{allOf, allAtMost}
 use Rattle.lists.specs.Below.{allBelow}
 use Rattle.lists.proofs.All.{all-passes, all-fails, all-passed, each-allOf}
 use Rattle.lists.proofs.Below.{all-each, and-left, and-right}
-use Rattle.constraint.specs.Check.{countsInRange, rowsOf}
+use Rattle.constraint.specs.Check.{countsInRange, rowsJudged}
 use Rattle.constraint.specs.declared.check.Takes.the-variants.{Scheduling}
-use Rattle.constraint.specs.declared.check.Checked.{Checked}
-use Rattle.constraint.specs.declared.check.Checked.the-variants as checked
-use Rattle.constraint.specs.declared.refusal.Refusal.{Refusal}
-use Rattle.constraint.specs.declared.refusal.Refusal.the-variants as refusal
+use Rattle.constraint.specs.Told.{Told, done, refused, Verdict, good, refuse, unless, andThen}
+use Rattle.constraint.proofs.ToldLaws.{unless-done, then-done}
 use Rattle.constraint.proofs.CountLaws.{Within, within}
 use Rattle.scheduling.specs.Day.{Day}
 use Rattle.scheduling.specs.Feasible.{omissionAllowed, placeAllowed, placesAllowed, slotFits, lengthsFit, feasible, isFeasible}
 use Rattle.scheduling.specs.Plan.{slotOf}
 use Rattle.scheduling.specs.Rows.{keepsRows}
-use Rattle.scheduling.specs.Check.{cellFits, flagFits, orElse, cellsOf, beforeCells, judgeOf, planCheckOf}
-use Rattle.scheduling.specs.declared.plan_check.PlanChecked.the-variants.{Feasible, Infeasible, Refused}
+use Rattle.scheduling.specs.Check.{cellFits, flagsJudged, cellsJudged, beforeCells, planJudged, planCheckOf}
 use Rattle.scheduling.proofs.PlanLaws.{slot-at}
 use Rattle.scheduling.proofs.FeasibleLaws.{worker-agrees}
 
@@ -37,35 +34,26 @@ module _ (slots cell : ℕ) where
   unfolding cellFits
   cell-slot n = rw (ne-eqb _ _ n)
 
--- an optional byte
-pub flag-over : (flag : ℕ) → 1 < flag → flagFits flag ≡ false
-unfolding flagFits
-flag-over flag h = lt-leb _ _ h
-
-pub flag-good : (flag : ℕ) → flag ≤ 1 → flagFits flag ≡ true
-unfolding flagFits
-flag-good flag h = le-leb _ _ h
-
--- the loops over cells and flags: what is left of the list decides
+-- the loop over the cells: the rest of the list decides
 module _ (test : ℕ → Bool) (list : List ℕ) where
-  pub Left : ℕ → Type 0
-  Left i = allOf test list ≡ allOf test (drop i list)
+  pub RestDecides : ℕ → Type 0
+  RestDecides i = allOf test list ≡ allOf test (drop i list)
 
-  pub left-start : Left 0
-  unfolding Left
-  left-start = refl
+  pub rest-start : RestDecides 0
+  unfolding RestDecides
+  rest-start = refl
 
-  pub left-next : (i : ℕ) → i < length list → Left i → test (getD list i 0) ≡ true → Left (i + 1)
-  unfolding Left
-  left-next i h f t = f ∙ all-passes test list i 0 h t
+  pub rest-next : (i : ℕ) → i < length list → RestDecides i → test (getD list i 0) ≡ true → RestDecides (i + 1)
+  unfolding RestDecides
+  rest-next i h f t = f ∙ all-passes test list i 0 h t
 
-  pub left-fails : (i : ℕ) → i < length list → Left i → test (getD list i 0) ≡ false → allOf test list ≡ false
-  unfolding Left
-  left-fails i h f t = f ∙ all-fails test list i 0 h t
+  pub rest-fails : (i : ℕ) → i < length list → RestDecides i → test (getD list i 0) ≡ false → allOf test list ≡ false
+  unfolding RestDecides
+  rest-fails i h f t = f ∙ all-fails test list i 0 h t
 
-  pub left-none : (i : ℕ) → length list ≤ i → Left i → allOf test list ≡ true
-  unfolding Left
-  left-none i h f = f ∙ all-passed test list i h
+  pub rest-none : (i : ℕ) → length list ≤ i → RestDecides i → allOf test list ≡ true
+  unfolding RestDecides
+  rest-none i h f = f ∙ all-passed test list i h
 
 -- the lengths, one after the other
 module _ (choices : ℕ) (mins maxs optional plan : List ℕ) where
@@ -87,36 +75,36 @@ module _ (choices : ℕ) (mins maxs optional plan : List ℕ) where
 
 -- 9 before 13
 module _ (slots : ℕ) (optional plan : List ℕ) where
-  pub bad-cell : allOf (cellFits slots) plan ≡ false → checked.Refused refusal.PlanCell ≡ cellsOf slots optional plan
-  unfolding cellsOf
+  pub bad-cell : allOf (cellFits slots) plan ≡ false → refuse 9 ≡ cellsJudged slots optional plan
+  unfolding cellsJudged
   bad-cell h = rw h
 
-  pub bad-flag : allOf (cellFits slots) plan ≡ true → allOf flagFits optional ≡ false → checked.Refused refusal.Optional ≡ cellsOf slots optional plan
-  unfolding cellsOf
+  pub bad-flag : allOf (cellFits slots) plan ≡ true → allAtMost 1 optional ≡ false → refuse 13 ≡ cellsJudged slots optional plan
+  unfolding cellsJudged flagsJudged
   bad-flag c h = rw (c, h)
 
-  pub good-cells : allOf (cellFits slots) plan ≡ true → allOf flagFits optional ≡ true → checked.Good ≡ cellsOf slots optional plan
-  unfolding cellsOf
+  pub good-cells : allOf (cellFits slots) plan ≡ true → allAtMost 1 optional ≡ true → good ≡ cellsJudged slots optional plan
+  unfolding cellsJudged flagsJudged
   good-cells c h = rw (c, h)
 
 -- the refusals before the cells', in their order
 module _ (day : Day) (plan : List ℕ) where
-  pub before-count : countsInRange (day .counts) Scheduling ≡ false → checked.Refused refusal.Count ≡ beforeCells day plan
+  pub before-count : countsInRange (day .counts) Scheduling ≡ false → refuse 1 ≡ beforeCells day plan
   unfolding beforeCells
   before-count h = rw h
 
   module _ (c : countsInRange (day .counts) Scheduling ≡ true) where
     pub before-length : lengthsFit (day .counts .choices) (day .mins) (day .maxs) (day .optional) plan ≡ false
-        → checked.Refused refusal.Length ≡ beforeCells day plan
+        → refuse 2 ≡ beforeCells day plan
     unfolding beforeCells
     before-length h = rw (c, h)
 
     module _ (l : lengthsFit (day .counts .choices) (day .mins) (day .maxs) (day .optional) plan ≡ true) where
-      pub before-rows-length : (length (day .rows) ≡ day .counts .rows → ⊥) → checked.Refused refusal.Length ≡ beforeCells day plan
+      pub before-rows-length : (length (day .rows) ≡ day .counts .rows → ⊥) → refuse 2 ≡ beforeCells day plan
       unfolding beforeCells
       before-rows-length n = rw (c, l, ne-eqb _ _ n)
 
-      pub before-rows : length (day .rows) ≡ day .counts .rows → rowsOf (day .counts) Scheduling (day .rows) ≡ beforeCells day plan
+      pub before-rows : length (day .rows) ≡ day .counts .rows → rowsJudged (day .counts) Scheduling (day .rows) ≡ beforeCells day plan
       unfolding beforeCells
       before-rows e = rw (c, l, eq-eqb _ _ e)
 
@@ -125,83 +113,52 @@ pub record Judged (day : Day) (plan : List ℕ) : Type 0 where
   pub in-range : countsInRange (day .counts) Scheduling ≡ true
   pub lengths : lengthsFit (day .counts .choices) (day .mins) (day .maxs) (day .optional) plan ≡ true
   pub rows-length : length (day .rows) ≡ day .counts .rows
-  pub rows-keep : rowsOf (day .counts) Scheduling (day .rows) ≡ checked.Good
+  pub rows-keep : rowsJudged (day .counts) Scheduling (day .rows) ≡ good
   pub cells : allOf (cellFits (day .counts .slots)) plan ≡ true
-  pub flags : allOf flagFits (day .optional) ≡ true
-
-good-first : (b : Bool) (next : Checked) (why : Refusal) → cond b next (checked.Refused why) ≡ checked.Good → (b ≡ true) × (next ≡ checked.Good)
-good-first true next why h = (refl, h)
-good-first false next why h = let z : _≡_ {A = ℕ} 0 1 = cc in absurd (omega arith)
-
-good-else : (first next : Checked) → orElse first next ≡ checked.Good → (first ≡ checked.Good) × (next ≡ checked.Good)
-good-else checked.Good next h = (refl, h)
-good-else (checked.Refused why) next h = let z : _≡_ {A = ℕ} 0 1 = cc in absurd (omega arith)
+  pub flags : allAtMost 1 (day .optional) ≡ true
 
 module _ (day : Day) (plan : List ℕ) where
-  pub judged : judgeOf day plan ≡ checked.Good → Judged day plan
-  unfolding judgeOf cellsOf
-  judged h =
+  -- what isn't refused before its cells
+  pub before-judged : beforeCells day plan ≡ good
+      → (countsInRange (day .counts) Scheduling ≡ true) × (lengthsFit (day .counts .choices) (day .mins) (day .maxs) (day .optional) plan ≡ true) × (length (day .rows) ≡ day .counts .rows) × (rowsJudged (day .counts) Scheduling (day .rows) ≡ good)
+  unfolding beforeCells
+  before-judged h =
       let l = lengthsFit (day .counts .choices) (day .mins) (day .maxs) (day .optional) plan in
       let r = eqb (length (day .rows)) (day .counts .rows) in
-      let flags = cond (allOf flagFits (day .optional)) checked.Good (checked.Refused refusal.Optional) in
-      let cells = cond (allOf (cellFits (day .counts .slots)) plan) flags (checked.Refused refusal.PlanCell) in
-      let rows = rowsOf (day .counts) Scheduling (day .rows) in
-      let a = good-first (countsInRange (day .counts) Scheduling) (cond (l && r) (orElse rows cells) (checked.Refused refusal.Length)) refusal.Count h in
-      let b = good-first (l && r) (orElse rows cells) refusal.Length (a .1) in
-      let c = good-else rows cells (b .1) in
-      let d = good-first (allOf (cellFits (day .counts .slots)) plan) flags refusal.PlanCell (c .1) in
-      let e = good-first (allOf flagFits (day .optional)) checked.Good refusal.Optional (d .1) in
+      let rows = rowsJudged (day .counts) Scheduling (day .rows) in
+      let a = unless-done (countsInRange (day .counts) Scheduling) 1 (unless (l && r) 2 rows) h in
+      let b = unless-done (l && r) 2 rows (a .1) in
+      (a .0, and-left l r (b .0), eqb-true _ _ (and-right l r (b .0)), b .1)
+
+  pub judged-facts : planJudged day plan ≡ good → Judged day plan
+  unfolding planJudged cellsJudged flagsJudged
+  judged-facts h =
+      let flags = unless (allAtMost 1 (day .optional)) 13 good in
+      let cells = unless (allOf (cellFits (day .counts .slots)) plan) 9 flags in
+      let c = then-done (beforeCells day plan) cells h in
+      let b = before-judged (c .0) in
+      let d = unless-done (allOf (cellFits (day .counts .slots)) plan) 9 flags (c .1) in
+      let e = unless-done (allAtMost 1 (day .optional)) 13 good (d .1) in
       record {
-        in-range = a .0;
-        lengths = and-left l r (b .0);
-        rows-length = eqb-true _ _ (and-right l r (b .0));
-        rows-keep = c .0;
+        in-range = b .0;
+        lengths = b .1;
+        rows-length = b .2;
+        rows-keep = b .3;
         cells = d .0;
         flags = e .0;
       }
 
-  -- on what isn't refused the worker says what the plan check says
-  pub worker-judged : judgeOf day plan ≡ checked.Good → isFeasible day plan ≡ feasible day plan
-  worker-judged h =
-      let j : Judged day plan = judged h in
-      let w : Within (day .counts) Scheduling = within (day .counts) Scheduling (j .in-range) in
-      sym (worker-agrees day plan (w .choices) (w .slots) (j .lengths))
-
-  -- the refusals before the cells', and then the cells'
-  judge-splits : judgeOf day plan ≡ orElse (beforeCells day plan) (cellsOf (day .counts .slots) (day .optional) plan)
-  unfolding judgeOf beforeCells
-  judge-splits =
-      splits
-      (countsInRange (day .counts) Scheduling)
-      (lengthsFit (day .counts .choices) (day .mins) (day .maxs) (day .optional) plan && eqb (length (day .rows)) (day .counts .rows))
-      (rowsOf (day .counts) Scheduling (day .rows))
-      (cellsOf (day .counts .slots) (day .optional) plan)
-    where
-      splits : (a b : Bool) (rows cells : Checked)
-          → cond a (cond b (orElse rows cells) (checked.Refused refusal.Length)) (checked.Refused refusal.Count)
-          ≡ orElse (cond a (cond b rows (checked.Refused refusal.Length)) (checked.Refused refusal.Count)) cells
-      splits true true rows cells = refl
-      splits true false rows cells = refl
-      splits false true rows cells = refl
-      splits false false rows cells = refl
-
-  pub judge-before : {why : Refusal} → beforeCells day plan ≡ checked.Refused why → judgeOf day plan ≡ checked.Refused why
-  judge-before h = judge-splits ∙ ap (λ (c : Checked). orElse c (cellsOf (day .counts .slots) (day .optional) plan)) h
-
-  pub judge-after : {c : Checked} → beforeCells day plan ≡ checked.Good → cellsOf (day .counts .slots) (day .optional) plan ≡ c → judgeOf day plan ≡ c
-  judge-after h e = judge-splits ∙ ap (λ (c : Checked). orElse c (cellsOf (day .counts .slots) (day .optional) plan)) h ∙ e
-
   -- what isn't refused before its cells has a day's shape, so the worker says what the plan check says
-  worker-before : beforeCells day plan ≡ checked.Good → isFeasible day plan ≡ feasible day plan
-  unfolding beforeCells
+  worker-before : beforeCells day plan ≡ good → isFeasible day plan ≡ feasible day plan
   worker-before h =
-      let l = lengthsFit (day .counts .choices) (day .mins) (day .maxs) (day .optional) plan in
-      let r = eqb (length (day .rows)) (day .counts .rows) in
-      let rows = rowsOf (day .counts) Scheduling (day .rows) in
-      let a = good-first (countsInRange (day .counts) Scheduling) (cond (l && r) rows (checked.Refused refusal.Length)) refusal.Count h in
-      let b = good-first (l && r) rows refusal.Length (a .1) in
-      let w : Within (day .counts) Scheduling = within (day .counts) Scheduling (a .0) in
-      sym (worker-agrees day plan (w .choices) (w .slots) (and-left l r (b .0)))
+      let b = before-judged h in
+      let w : Within (day .counts) Scheduling = within (day .counts) Scheduling (b .0) in
+      sym (worker-agrees day plan (w .choices) (w .slots) (b .1))
+
+  -- on what isn't refused the worker says what the plan check says
+  pub worker-judged : planJudged day plan ≡ good → isFeasible day plan ≡ feasible day plan
+  unfolding planJudged
+  worker-judged h = worker-before (then-done (beforeCells day plan) (cellsJudged (day .counts .slots) (day .optional) plan) h .0)
 
   -- every cell of a feasible plan is a slot or 255
   feasible-cells : feasible day plan ≡ true → allOf (cellFits (day .counts .slots)) plan ≡ true
@@ -222,14 +179,22 @@ module _ (day : Day) (plan : List ℕ) where
       placed false true f h = refl
       placed false false f h = h
 
-  pub cells-spared : beforeCells day plan ≡ checked.Good → isFeasible day plan ≡ true → allOf (cellFits (day .counts .slots)) plan ≡ true
-  cells-spared h f = feasible-cells (sym (worker-before h) ∙ f)
+  pub cells-spared : good ≡ beforeCells day plan → isFeasible day plan ≡ true → allOf (cellFits (day .counts .slots)) plan ≡ true
+  cells-spared h f = feasible-cells (sym (worker-before (sym h)) ∙ f)
 
-  -- the call
-  pub check-refused : {why : Refusal} → judgeOf day plan ≡ checked.Refused why → Refused why ≡ planCheckOf day plan
-  unfolding planCheckOf
-  check-refused h = rw h
+  -- the call: a refusal before the cells, the cells' own, or the worker's answer
+  pub check-before : {number : ℕ} {carried : List ℕ} → refused number carried ≡ beforeCells day plan → refused number carried ≡ planCheckOf day plan
+  unfolding planCheckOf planJudged
+  check-before h = ap (λ (v : Verdict). andThen (andThen v (cellsJudged (day .counts .slots) (day .optional) plan)) (done (feasible day plan))) h
 
-  pub check-answers : (b : Bool) → judgeOf day plan ≡ checked.Good → isFeasible day plan ≡ b → cond b Feasible Infeasible ≡ planCheckOf day plan
-  unfolding planCheckOf
-  check-answers b h f = rw (h, sym (worker-judged h), f)
+  pub check-cells : {number : ℕ} {carried : List ℕ} → good ≡ beforeCells day plan → refused number carried ≡ cellsJudged (day .counts .slots) (day .optional) plan
+      → refused number carried ≡ planCheckOf day plan
+  unfolding planCheckOf planJudged
+  check-cells h e =
+      ap (λ (v : Verdict). andThen v (done (feasible day plan))) e ∙ ap (λ (v : Verdict). andThen (andThen v (cellsJudged (day .counts .slots) (day .optional) plan)) (done (feasible day plan))) h
+
+  pub check-answers : (b : Bool) → good ≡ beforeCells day plan → good ≡ cellsJudged (day .counts .slots) (day .optional) plan → isFeasible day plan ≡ b
+      → done b ≡ planCheckOf day plan
+  unfolding planCheckOf planJudged
+  check-answers b h e f =
+      ap (λ (x : Bool). done x) (sym f ∙ worker-before (sym h)) ∙ ap (λ (v : Verdict). andThen v (done (feasible day plan))) e ∙ ap (λ (v : Verdict). andThen (andThen v (cellsJudged (day .counts .slots) (day .optional) plan)) (done (feasible day plan))) h

@@ -11,7 +11,7 @@ use Rattle.lists.proofs.Below.{and-left, and-right}
 use Rattle.scheduling.specs.Day.{Day}
 use Rattle.scheduling.specs.Rows.{keepsRows}
 use Rattle.scheduling.specs.Feasible.{placesAllowed, slotFits, feasible, lengthsFit, shapesFit, isFeasible}
-use Rattle.scheduling.specs.Sums.{Shapes}
+use Rattle.scheduling.specs.steps.Sums.{Shapes}
 
 -- every length is the number of choices
 module _ (choices : ℕ) (mins maxs optional plan : List ℕ) (h : lengthsFit choices mins maxs optional plan ≡ true) where

@@ -1,4 +1,4 @@
--- Lists of rules joined, and that nothing is left open by the promises.
+-- Two lists of rules joined (02, request 11): a plan keeps them exactly if it keeps each, in either order.
 use mathlib.Core.Path.{_≡_, sym, _∙_}
 use mathlib.Core.Bool.{Bool, true, false, _&&_, and-comm, and-self}
 use mathlib.Core.List.{List, _++_}

@@ -91,7 +91,7 @@ module _ (day : Day) (plan : List ℕ) where
   pub feasible-exactly : (feasible day plan ≡ true) ↔ Feasible day plan
   feasible-exactly = (feasible-means, feasible-by)
 
--- 'Sums fit': 64 choices of 65,535 sum to 4,194,240
+-- no sum passes 32 bits: 64 choices of 65,535 sum to 4,194,240
 pub sums-fit : (amounts plan : List ℕ) (slot : ℕ) → length plan ≤ 64 → ((k : ℕ) → getD amounts k 0 ≤ 65535) → sumIn amounts plan slot ≤ 4194240
 unfolding sumIn
 sums-fit amounts plan slot h b = omega (arith, sum-fits (λ choice. getD amounts choice 0) plan (length plan) slot b)

@@ -1,41 +1,59 @@
 -- No two outcomes fit the promises, and where the call answers the worker gives the same answer.
 use mathlib.Core.Path.{_≡_, refl, sym, _∙_, ap}
-use mathlib.Core.Bool.{Bool, true, false, cond}
+use mathlib.Core.Bool.{Bool, true, false}
 use mathlib.Core.List.{List}
 use Prim.Native.Nat.{ℕ}
-use native.Mathlib.Omega.{arith}
-use Rattle.constraint.specs.declared.check.Checked.{Checked}
-use Rattle.constraint.specs.declared.check.Checked.the-variants as checked
+use Rattle.lists.proofs.Outcome.{no-two}
+use Rattle.constraint.specs.Told.{Told, done, refused}
+use Rattle.constraint.proofs.ToldLaws.{refusalOf, refusal-back, one-answer, then-done, done-is}
 use Rattle.scheduling.specs.Day.{Day}
+use Rattle.scheduling.specs.Plan.{slotOf}
+use Rattle.scheduling.specs.Rows.{opHolds, slotsDiffer, offsetKept}
 use Rattle.scheduling.specs.Feasible.{feasible, isFeasible}
-use Rattle.scheduling.specs.Check.{answerOf, judgeOf, planCheckOf}
+use Rattle.scheduling.specs.Kept.{keepsEvery}
+use Rattle.scheduling.specs.Check.{planJudged, planCheckedTells, planCheckOf}
 use Rattle.scheduling.specs.declared.plan_check.PlanChecked.{PlanChecked}
 use Rattle.scheduling.specs.declared.plan_check.PlanChecked.the-variants.{Feasible, Infeasible, Refused}
 use Rattle.scheduling.proofs.CheckLaws.{worker-judged}
 
+-- the plan check's answer, read back from what it tells
+abbrev pub planCheckedOf : Told Bool → PlanChecked
+planCheckedOf (done true) = Feasible
+planCheckedOf (done false) = Infeasible
+planCheckedOf (refused number carried) = Refused (refusalOf number carried)
+
+pub plan-checked-back : (answer : PlanChecked) → planCheckedOf (planCheckedTells answer) ≡ answer
+plan-checked-back Feasible = refl
+plan-checked-back Infeasible = refl
+plan-checked-back (Refused why) = ap Refused (refusal-back why)
+
 module _ (day : Day) (plan : List ℕ) where
   -- no two outcomes fit what check_plan promises, and none what is_feasible does
-  pub check-settled : (a b : PlanChecked) → a ≡ planCheckOf day plan → b ≡ planCheckOf day plan → a ≡ b
-  check-settled a b p q = p ∙ sym q
+  pub check-settled : {a b : PlanChecked} → planCheckedTells a ≡ planCheckOf day plan → planCheckedTells b ≡ planCheckOf day plan → a ≡ b
+  check-settled = one-answer planCheckedTells planCheckedOf plan-checked-back
 
-  pub worker-settled : (a b : Bool) → a ≡ isFeasible day plan → b ≡ isFeasible day plan → a ≡ b
-  worker-settled a b p q = p ∙ sym q
+  pub worker-settled : {a b : Bool} → a ≡ isFeasible day plan → b ≡ isFeasible day plan → a ≡ b
+  worker-settled = no-two
 
   -- what check_plan calls feasible or not, the worker does
-  pub worker-says : (answer : Bool) → planCheckOf day plan ≡ cond answer Feasible Infeasible → isFeasible day plan ≡ answer
+  pub worker-says : (answer : Bool) → planCheckOf day plan ≡ done answer → isFeasible day plan ≡ answer
   unfolding planCheckOf
-  worker-says answer h = go (judgeOf day plan) refl h
-    where
-      decided : (b answer : Bool) → cond b Feasible Infeasible ≡ cond answer Feasible Infeasible → b ≡ answer
-      decided true true h = refl
-      decided true false h = let z : _≡_ {A = ℕ} 0 1 = cc in absurd (omega arith)
-      decided false true h = let z : _≡_ {A = ℕ} 0 1 = cc in absurd (omega arith)
-      decided false false h = refl
+  worker-says answer h =
+      let d = then-done (planJudged day plan) (done (feasible day plan)) h in
+      worker-judged day plan (d .0) ∙ done-is (d .1)
 
-      never : (answer : Bool) {why : _} → Refused why ≡ cond answer Feasible Infeasible → ⊥
-      never true h = let z : _≡_ {A = ℕ} 0 1 = cc in omega arith
-      never false h = let z : _≡_ {A = ℕ} 0 1 = cc in omega arith
+-- and none what the smaller functions do
+pub one-slot : (plan : List ℕ) (choice : ℕ) {a b : ℕ} → a ≡ slotOf plan choice → b ≡ slotOf plan choice → a ≡ b
+one-slot plan choice = no-two
 
-      go : (c : Checked) → judgeOf day plan ≡ c → answerOf c (feasible day plan) ≡ cond answer Feasible Infeasible → isFeasible day plan ≡ answer
-      go checked.Good j h = worker-judged day plan j ∙ decided (feasible day plan) answer h
-      go (checked.Refused why) j h = absurd (never answer h)
+pub one-op : (op count limit : ℕ) {a b : Bool} → a ≡ opHolds op count limit → b ≡ opHolds op count limit → a ≡ b
+one-op op count limit = no-two
+
+pub one-difference : (plan : List ℕ) (left right : ℕ) {a b : Bool} → a ≡ slotsDiffer plan left right → b ≡ slotsDiffer plan left right → a ≡ b
+one-difference plan left right = no-two
+
+pub one-offset : (plan : List ℕ) (left right extra : ℕ) {a b : Bool} → a ≡ offsetKept plan left right extra → b ≡ offsetKept plan left right extra → a ≡ b
+one-offset plan left right extra = no-two
+
+pub one-keeping : (plan rows : List ℕ) {a b : Bool} → a ≡ keepsEvery plan rows → b ≡ keepsEvery plan rows → a ≡ b
+one-keeping plan rows = no-two

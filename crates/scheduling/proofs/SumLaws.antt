@@ -14,7 +14,7 @@ use Rattle.lists.proofs.Below.{and-left, all-more, one-fails, sum-more}
 use Rattle.lists.proofs.Sums.{all-ext, count-sum, sum-word}
 use Rattle.scheduling.specs.Plan.{slotOf, standsIn, countIn, sumUpTo, sumIn}
 use Rattle.scheduling.specs.Feasible.{omissionAllowed, placeAllowed, placesAllowed, slotFits}
-use Rattle.scheduling.specs.Sums.{Shapes, Sums, Sizes, Added, listedFits}
+use Rattle.scheduling.specs.steps.Sums.{Shapes, Sums, Sizes, Added, listedFits}
 use Rattle.scheduling.proofs.PlanLaws.{slot-at, stands-omitted, stands-by}
 
 -- the first choices' sums stand in the list, slot by slot
@@ -27,7 +27,7 @@ zeros-at (suc n) zero = refl
 zeros-at (suc n) (suc i) = zeros-at n i
 
 module _ (amount : ℕ → ℕ) (plan : List ℕ) where
-  summing-none : (n : ℕ) → Summing 0 amount plan (replicate n 0)
+  pub summing-none : (n : ℕ) → Summing 0 amount plan (replicate n 0)
   unfolding Summing sumUpTo sumBelow
   summing-none n slot = zeros-at n slot
 
@@ -43,12 +43,12 @@ module _ (amount : ℕ → ℕ) (plan : List ℕ) where
   step-out n slot t = rw (sum-step n slot, t) (omega arith)
 
   -- an omitted choice adds to no slot
-  summing-skip : (n : ℕ) (sums : List ℕ) → Summing n amount plan sums → slotOf plan n ≡ 255 → Summing (n + 1) amount plan sums
+  pub summing-skip : (n : ℕ) (sums : List ℕ) → Summing n amount plan sums → slotOf plan n ≡ 255 → Summing (n + 1) amount plan sums
   unfolding Summing
   summing-skip n sums h e slot = h slot ∙ sym (step-out n slot (stands-omitted plan n slot e))
 
   -- a scheduled one adds to its own slot
-  summing-put : (n : ℕ) (sums : List ℕ) (at v : ℕ) → Summing n amount plan sums → length sums ≡ 24 → slotOf plan n ≡ at → at < 24 → v ≡ amount n
+  pub summing-put : (n : ℕ) (sums : List ℕ) (at v : ℕ) → Summing n amount plan sums → length sums ≡ 24 → slotOf plan n ≡ at → at < 24 → v ≡ amount n
       → Summing (n + 1) amount plan (set sums at (getD sums at 0 + v))
   unfolding Summing
   summing-put n sums at v h l e b a slot =

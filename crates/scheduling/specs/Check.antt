@@ -1,15 +1,13 @@
 -- The plan check as a call: its refusals, lowest number first, and its answer.
-use mathlib.Core.Bool.{Bool, true, false, _&&_, _||_, cond}
+use mathlib.Core.Bool.{Bool, true, false, _&&_, _||_}
 use mathlib.Core.List.{List}
 use Prim.Native.Nat.{ℕ}
-use lib.Dec.{eqb, ltb, leb}
+use lib.Dec.{eqb, ltb}
 use lib.ListN.{length}
-use Rattle.lists.specs.All.{allOf}
-use Rattle.constraint.specs.Check.{countsInRange, rowsOf}
+use Rattle.lists.specs.All.{allOf, allAtMost}
+use Rattle.constraint.specs.Check.{countsInRange, rowsJudged}
 use Rattle.constraint.specs.declared.check.Takes.the-variants.{Scheduling}
-use Rattle.constraint.specs.declared.check.Checked.{Checked}
-use Rattle.constraint.specs.declared.check.Checked.the-variants as checked
-use Rattle.constraint.specs.declared.refusal.Refusal.the-variants as refusal
+use Rattle.constraint.specs.Told.{Told, done, Verdict, good, refusalTells, unless, andThen}
 use Rattle.scheduling.specs.Day.{Day}
 use Rattle.scheduling.specs.Feasible.{lengthsFit, feasible}
 use Rattle.scheduling.specs.declared.plan_check.PlanChecked.{PlanChecked}
@@ -20,46 +18,30 @@ unfoldable pub cellFits : ℕ → ℕ → Bool
 cellFits slots cell = eqb cell 255 || ltb cell slots
 
 -- 13: 'an optional byte isn't 0 or 1'
-unfoldable pub flagFits : ℕ → Bool
-flagFits flag = leb flag 1
-
--- the first answer that refuses
-abbrev pub orElse : Checked → Checked → Checked
-orElse checked.Good next = next
-orElse (checked.Refused why) next = checked.Refused why
+unfoldable pub flagsJudged : List ℕ → Verdict
+flagsJudged optional = unless (allAtMost 1 optional) 13 good
 
 -- 9 before 13
-unfoldable pub cellsOf : ℕ → List ℕ → List ℕ → Checked
-cellsOf slots optional plan =
-    cond (allOf (cellFits slots) plan)
-    (cond (allOf flagFits optional) checked.Good (checked.Refused refusal.Optional))
-    (checked.Refused refusal.PlanCell)
+unfoldable pub cellsJudged : ℕ → List ℕ → List ℕ → Verdict
+cellsJudged slots optional plan = unless (allOf (cellFits slots) plan) 9 (flagsJudged optional)
 
 -- the refusals that come before the cells': 1, 2, 5 with the first bad row
-unfoldable pub beforeCells : Day → List ℕ → Checked
+unfoldable pub beforeCells : Day → List ℕ → Verdict
 beforeCells day plan =
-    cond (countsInRange (day .counts) Scheduling)
-    (cond
-    (lengthsFit (day .counts .choices) (day .mins) (day .maxs) (day .optional) plan && eqb (length (day .rows)) (day .counts .rows))
-    (rowsOf (day .counts) Scheduling (day .rows))
-    (checked.Refused refusal.Length))
-    (checked.Refused refusal.Count)
+    unless (countsInRange (day .counts) Scheduling) 1
+    (unless (lengthsFit (day .counts .choices) (day .mins) (day .maxs) (day .optional) plan && eqb (length (day .rows)) (day .counts .rows)) 2
+    (rowsJudged (day .counts) Scheduling (day .rows)))
 
--- the refusals, lowest number first: 1, 2, 5 with the first bad row, 9, 13
-unfoldable pub judgeOf : Day → List ℕ → Checked
-judgeOf day plan =
-    cond (countsInRange (day .counts) Scheduling)
-    (cond
-    (lengthsFit (day .counts .choices) (day .mins) (day .maxs) (day .optional) plan && eqb (length (day .rows)) (day .counts .rows))
-    (orElse (rowsOf (day .counts) Scheduling (day .rows)) (cellsOf (day .counts .slots) (day .optional) plan))
-    (checked.Refused refusal.Length))
-    (checked.Refused refusal.Count)
+-- the refusals, lowest number first: 1, 2, 5, 9, 13
+unfoldable pub planJudged : Day → List ℕ → Verdict
+planJudged day plan = andThen (beforeCells day plan) (cellsJudged (day .counts .slots) (day .optional) plan)
 
--- feasible or not, on what isn't refused
-abbrev pub answerOf : Checked → Bool → PlanChecked
-answerOf checked.Good passes = cond passes Feasible Infeasible
-answerOf (checked.Refused why) passes = Refused why
+-- what the answer tells: whether the plan is feasible, or 01's number
+abbrev pub planCheckedTells : PlanChecked → Told Bool
+planCheckedTells Feasible = done true
+planCheckedTells Infeasible = done false
+planCheckedTells (Refused why) = refusalTells why
 
 -- the call
-unfoldable pub planCheckOf : Day → List ℕ → PlanChecked
-planCheckOf day plan = answerOf (judgeOf day plan) (feasible day plan)
+unfoldable pub planCheckOf : Day → List ℕ → Told Bool
+planCheckOf day plan = andThen (planJudged day plan) (done (feasible day plan))

@@ -2,5 +2,6 @@ pub mod Day
 pub mod Plan
 pub mod Rows
 pub mod Feasible
-pub mod Sums
 pub mod Check
+pub mod Kept
+pub mod steps

@@ -2,34 +2,28 @@
 use super::plan::OMITTED;
 use super::rows::keeps_rows;
 use constraint::check::Counts;
+use pools::wide;
 ghost use mathlib.Core.Path.{_≡_};
 ghost use Prim.Native.Nat.{_+_, _≤_, _<_, _^_};
 ghost use lib.ListN.{getD, set, replicate};
 ghost use Rattle.lists.specs.Below.{allBelow};
 ghost use Rattle.scheduling.specs.Day.{dayOf};
 ghost use Rattle.scheduling.specs.Feasible.{omissionAllowed, feasible, lengthsFit, isFeasible};
-ghost use Rattle.scheduling.specs.Sums.{Shapes, Added, listedFits};
+ghost use Rattle.scheduling.specs.steps.Sums.{Shapes, Added, listedFits};
 
 // A sum for each of the slots that a day may have, all 0.
-fn no_sums() -> [u32; 24]
+pub(crate) fn no_sums() -> [u32; 24]
     ensures { λ r. ⌜ r ≡ replicate 24 0 ⌝ }
 {
     [0u32; 24]
 }
 
 // Adds to a slot's sum.
-fn add_at(sums: &mut [u32; 24], slot: usize, amount: u32)
+pub(crate) fn add_at(sums: &mut [u32; 24], slot: usize, amount: u32)
     requires { ⌜ (slot < 24) × (getD (now sums) slot 0 + amount < 2 ^ 32) ⌝ }
     ensures { λ r. ⌜ now (sums .exit) ≡ set (now (sums .entry)) slot (getD (now (sums .entry)) slot 0 + amount) ⌝ }
 {
     sums[slot] += amount;
-}
-
-// A plan's byte as an index.
-fn wide(byte: u8) -> usize
-    ensures { λ r. ⌜ r ≡ byte ⌝ }
-{
-    byte as usize
 }
 
 // A minimum or maximum as wide as the sums.
@@ -162,7 +156,7 @@ fn passes(
     keeps_rows(rows, plan, &sizes)
 }
 
-// Whether a plan is feasible, for callers that have judged their day: nothing is judged again but the lengths.
+// Whether a plan is feasible, for callers that have judged their day: of what a call judges only C, S and the lengths are tested here.
 pub fn is_feasible(
     counts: Counts,
     mins: &[u16],

@@ -8,11 +8,13 @@ use constraint::check::Takes;
 use constraint::check::check_each_row;
 use constraint::check::counts_in_range;
 use constraint::refusal::Refusal;
+use day_lists::flags_fit;
 ghost use mathlib.Core.Path.{_≡_};
 ghost use mathlib.Core.Bool.{true};
 ghost use Rattle.lists.specs.All.{allOf};
+ghost use Rattle.constraint.specs.Check.{checkedTells};
 ghost use Rattle.scheduling.specs.Day.{dayOf};
-ghost use Rattle.scheduling.specs.Check.{cellFits, flagFits, cellsOf, beforeCells, planCheckOf};
+ghost use Rattle.scheduling.specs.Check.{cellFits, cellsJudged, beforeCells, planCheckedTells, planCheckOf};
 
 // What the plan check answers.
 pub enum PlanChecked {
@@ -45,20 +47,6 @@ fn cells_fit(slots: usize, plan: &[u8]) -> bool
     true
 }
 
-// Whether every optional byte is 0 or 1.
-pub fn flags_fit(optional: &[u8]) -> bool
-    ensures { λ r. ⌜ r ≡ allOf flagFits (now (optional .entry)) ⌝ }
-{
-    let mut i = 0;
-    while i < optional.len() {
-        if 1 < optional[i] {
-            return false;
-        }
-        i += 1;
-    }
-    true
-}
-
 // Whether every plan cell is a slot or 255: in a feasible plan it is, so none is looked at again.
 fn cells_known(feasible: bool, slots: usize, plan: &[u8]) -> bool
     requires { ⌜ (feasible ≡ true → allOf (cellFits slots) (now plan) ≡ true) ⌝ }
@@ -73,7 +61,7 @@ fn cells_known(feasible: bool, slots: usize, plan: &[u8]) -> bool
 // Numbers 9 and 13, in this order.
 fn check_cells(feasible: bool, slots: usize, optional: &[u8], plan: &[u8]) -> Checked
     requires { ⌜ (feasible ≡ true → allOf (cellFits slots) (now plan) ≡ true) ⌝ }
-    ensures { λ r. ⌜ r ≡ cellsOf slots (now (optional .entry)) (now (plan .entry)) ⌝ }
+    ensures { λ r. ⌜ checkedTells r ≡ cellsJudged slots (now (optional .entry)) (now (plan .entry)) ⌝ }
 {
     let cells = cells_known(feasible, slots, plan);
     let flags = flags_fit(optional);
@@ -95,7 +83,7 @@ fn judge(
     rows: &[u64],
     plan: &[u8],
 ) -> Checked
-    ensures { λ r. ⌜ r ≡ beforeCells (dayOf counts (now (mins .entry)) (now (maxs .entry)) (now (optional .entry)) (now (rows .entry))) (now (plan .entry)) ⌝ }
+    ensures { λ r. ⌜ checkedTells r ≡ beforeCells (dayOf counts (now (mins .entry)) (now (maxs .entry)) (now (optional .entry)) (now (rows .entry))) (now (plan .entry)) ⌝ }
 {
     if !counts_in_range(counts, Takes::Scheduling) {
         return Checked::Refused(Refusal::Count);
@@ -118,7 +106,7 @@ pub fn check_plan(
     rows: &[u64],
     plan: &[u8],
 ) -> PlanChecked
-    ensures { λ r. ⌜ r ≡ planCheckOf (dayOf counts (now (mins .entry)) (now (maxs .entry)) (now (optional .entry)) (now (rows .entry))) (now (plan .entry)) ⌝ }
+    ensures { λ r. ⌜ planCheckedTells r ≡ planCheckOf (dayOf counts (now (mins .entry)) (now (maxs .entry)) (now (optional .entry)) (now (rows .entry))) (now (plan .entry)) ⌝ }
 {
     let judged = judge(counts, mins, maxs, optional, rows, plan);
     if let Checked::Refused(why) = judged {

@@ -9,7 +9,7 @@ ghost use lib.Dec.{eqb};
 ghost use lib.ListN.{length, getD};
 ghost use Rattle.constraint.specs.Row.{rowOf};
 ghost use Rattle.scheduling.specs.Plan.{slotOf};
-ghost use Rattle.scheduling.specs.Sums.{Sizes};
+ghost use Rattle.scheduling.specs.steps.Sums.{Sizes};
 ghost use Rattle.scheduling.specs.Rows.{slotsDiffer, offsetKept, opHolds, keepsRow, keepsRows};
 
 // Kind 6's comparison: a slot's count of choices against the limit, by the op.

@@ -7,7 +7,7 @@ use lib.ListN.{replicate}
 use Rattle.lists.specs.Below.{allBelow}
 use Rattle.lists.specs.Group.{keepBelow, classOf, heads, classes}
 use Rattle.union_find.specs.declared.UnionFind.{UnionFind}
-use Rattle.union_find.specs.Answers.{done, refused}
+use Rattle.constraint.specs.Told.{done, refuse}
 use Rattle.union_find.specs.State.{state, fresh, soundAt, taken, climb, rootOf, findOf, hung, linked, joinOf, joinFrom, joinAll}
 
 -- 0 with 3, 1 with 2, then 3 with 1, of five: the group of root 2, and 4 alone
@@ -20,7 +20,7 @@ pub limit : findOf 64 fresh 63 ≡ done 63
 unfolding findOf rootOf climb fresh taken soundAt allBelow
 limit = refl
 
-pub over : findOf 65 fresh 63 ≡ refused 1
+pub over : findOf 65 fresh 63 ≡ refuse 1
 unfolding findOf rootOf climb fresh taken soundAt allBelow
 over = refl
 
@@ -32,6 +32,6 @@ pub tall-joined : joinOf 2 tall 0 1 .found ≡ done 1
 unfolding tall joinOf linked hung rootOf climb taken soundAt allBelow
 tall-joined = refl
 
-pub tall-refused : findOf 2 (joinOf 2 tall 0 1 .state) 0 ≡ refused 1
+pub tall-refused : findOf 2 (joinOf 2 tall 0 1 .state) 0 ≡ refuse 1
 unfolding tall findOf joinOf linked hung rootOf climb taken soundAt allBelow
 tall-refused = refl

@@ -6,27 +6,27 @@ use Prim.Native.Nat.{ℕ}
 use borrow.Author.Tests.{eq-eqb, ne-eqb}
 use lib.ListN.{length}
 use Rattle.lists.specs.Group.{classes}
+use Rattle.constraint.specs.Told.{refuse, outcome}
 use Rattle.union_find.specs.declared.UnionFind.{UnionFind}
-use Rattle.union_find.specs.Answers.{refused}
 use Rattle.union_find.specs.State.{taken, climb, rootOf}
-use Rattle.union_find.specs.Steps.{Climbs}
-use Rattle.union_find.specs.Groups.{groupsTell, groupsWritten, groupsOf}
+use Rattle.union_find.specs.steps.Climbs.{Climbs}
+use Rattle.union_find.specs.Groups.{groupsWritten, groupsOf}
 use Rattle.union_find.proofs.Entry.{sound-of}
 use Rattle.union_find.proofs.Root.{taken-ends}
 
 module _ (c : ℕ) (uf : UnionFind) (members ends : List ℕ) where
   -- a record that isn't taken
-  pub groups-untaken : taken c uf ≡ false → groupsOf c uf members ends ≡ groupsTell (refused 1) members ends
+  pub groups-untaken : taken c uf ≡ false → groupsOf c uf members ends ≡ outcome (refuse 1) (members, ends)
   unfolding groupsOf
   groups-untaken t = simp t
 
   -- a pool of members that isn't 64 long
-  pub groups-members : taken c uf ≡ true → (length members ≡ 64 → ⊥) → groupsOf c uf members ends ≡ groupsTell (refused 2) members ends
+  pub groups-members : taken c uf ≡ true → (length members ≡ 64 → ⊥) → groupsOf c uf members ends ≡ outcome (refuse 2) (members, ends)
   unfolding groupsOf
   groups-members t n = simp (t, ne-eqb _ _ n)
 
   -- a pool of ends that isn't 64 long
-  pub groups-ends : taken c uf ≡ true → (length ends ≡ 64 → ⊥) → groupsOf c uf members ends ≡ groupsTell (refused 2) members ends
+  pub groups-ends : taken c uf ≡ true → (length ends ≡ 64 → ⊥) → groupsOf c uf members ends ≡ outcome (refuse 2) (members, ends)
   unfolding groupsOf
   groups-ends t n = simp (t, ne-eqb _ _ n, and-false)
 

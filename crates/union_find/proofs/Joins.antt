@@ -10,7 +10,7 @@ use lib.Dec.{ltb}
 use lib.ListN.{length}
 use Rattle.lists.specs.Group.{classes}
 use Rattle.union_find.specs.declared.UnionFind.{UnionFind}
-use Rattle.union_find.specs.Answers.{done}
+use Rattle.constraint.specs.Told.{done}
 use Rattle.union_find.specs.State.{fresh, taken, rootOf, findOf, joinOf, joinFrom, joinAll}
 use Rattle.union_find.specs.Groups.{groupsWritten, groupsOf}
 use Rattle.union_find.proofs.Entry.{taken-of}

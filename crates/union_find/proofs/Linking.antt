@@ -4,7 +4,7 @@ use mathlib.Core.Bool.{true, false, and-false}
 use Prim.Native.Nat.{ℕ, _≤_, _<_}
 use borrow.Author.Tests.{lt-ltb, le-ltb, eq-eqb, ne-eqb}
 use Rattle.union_find.specs.declared.UnionFind.{UnionFind}
-use Rattle.union_find.specs.Answers.{done}
+use Rattle.constraint.specs.Told.{done}
 use Rattle.union_find.specs.State.{heightOf, taken, rootOf, joinedTells, refusedJoin, hung, linked, joinOf}
 
 module _ (uf : UnionFind) (a b : ℕ) where

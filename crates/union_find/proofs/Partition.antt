@@ -5,7 +5,8 @@ use mathlib.Core.List.{List, map, flatten, List·Memᴰ}
 use mathlib.Core.Logic.{_↔_}
 use Prim.Native.Nat.{ℕ, _≤_, _<_}
 use lib.ListN.{getD}
-use Rattle.lists.specs.Group.{classOf, heads, classes, timesIn, Rising}
+use Rattle.lists.specs.Group.{classOf, heads, classes, timesIn}
+use Rattle.lists.specs.Sorted.{Rises}
 use Rattle.lists.proofs.Partition.{Keeps, classes-once, classes-none, class-there, one-class, class-rises, heads-rise, classes-names}
 use Rattle.union_find.specs.declared.UnionFind.{UnionFind}
 use Rattle.union_find.specs.State.{taken, rootOf}
@@ -36,12 +37,12 @@ module _ (c : ℕ) (uf : UnionFind) (t : taken c uf ≡ true) where
   one-group m = one-class c (rootOf uf) m
 
   -- members rise
-  pub members-rise : {g : List ℕ} → List·Memᴰ g (classes c (rootOf uf)) → Rising g
+  pub members-rise : {g : List ℕ} → List·Memᴰ g (classes c (rootOf uf)) → Rises g
   members-rise m = class-rises c (rootOf uf) m
 
   -- groups go by rising root: the root of each one's first member
   pub groups-roots : map (λ g. rootOf uf (getD g 0 0)) (classes c (rootOf uf)) ≡ heads c (rootOf uf)
   groups-roots = classes-names c (rootOf uf)
 
-  pub roots-rise : Rising (heads c (rootOf uf))
+  pub roots-rise : Rises (heads c (rootOf uf))
   roots-rise = heads-rise c (rootOf uf)

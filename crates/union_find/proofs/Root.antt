@@ -8,9 +8,9 @@ use native.Mathlib.Omega.{arith}
 use borrow.Author.Tests.{lt-ltb, le-ltb, eq-eqb, ne-eqb}
 use lib.ListN.{getD}
 use Rattle.union_find.specs.declared.UnionFind.{UnionFind}
-use Rattle.union_find.specs.Answers.{done, refused}
+use Rattle.constraint.specs.Told.{done, refuse}
 use Rattle.union_find.specs.State.{parentOf, heightOf, climb, rootOf, taken, findOf}
-use Rattle.union_find.specs.Steps.{Ends, Fits}
+use Rattle.union_find.specs.steps.Climbs.{Ends, Fits}
 use Rattle.union_find.proofs.Entry.{Sound, sound-of}
 
 -- a climb that ends starts within the entries
@@ -84,12 +84,12 @@ climb-below c uf s (suc n) i l = elim (ℕ-discrete (parentOf uf i) 255) [
 
 module _ (c : ℕ) (uf : UnionFind) (element : ℕ) where
   -- a record that isn't taken
-  pub find-untaken : taken c uf ≡ false → findOf c uf element ≡ refused 1
+  pub find-untaken : taken c uf ≡ false → findOf c uf element ≡ refuse 1
   unfolding findOf
   find-untaken t = simp t
 
   -- an element that isn't under C
-  pub find-out : c ≤ element → findOf c uf element ≡ refused 1
+  pub find-out : c ≤ element → findOf c uf element ≡ refuse 1
   unfolding findOf
   find-out h = simp (le-ltb _ _ h, and-false)
 

@@ -10,7 +10,7 @@ use lib.Dec.{ltb}
 use lib.ListN.{length}
 use lib.Seq.{getD-set-same}
 use Rattle.union_find.specs.declared.UnionFind.{UnionFind}
-use Rattle.union_find.specs.Answers.{done}
+use Rattle.constraint.specs.Told.{done}
 use Rattle.union_find.specs.State.{parentOf, heightOf, taken, rootOf, hung, linked, JoinedTells, joinedTells, joinOf}
 use Rattle.union_find.proofs.Entry.{Sound, sound-of}
 use Rattle.union_find.proofs.Linking.{linked-same, linked-left, linked-right, join-links}

@@ -10,8 +10,8 @@ use Rattle.lists.specs.Group.{keepBelow, classOf, heads, classes, endsFrom}
 use Rattle.lists.specs.Pool.{pad}
 use Rattle.lists.proofs.Group.{class-in, class-out, class-room, class-fits, groupsTo, groups-in, groups-out, heads-le, length-ends, ends-snoc, flatten-snoc}
 use Rattle.lists.proofs.Pad.{sets-snoc, pad-nil, length-pad, pad-set, pad-sets}
-use Rattle.union_find.specs.Answers.{done}
-use Rattle.union_find.specs.Groups.{groupsTell, groupsWritten}
+use Rattle.constraint.specs.Told.{done, outcome}
+use Rattle.union_find.specs.Groups.{groupsWritten}
 
 -- ---- one class
 
@@ -101,7 +101,7 @@ module _ (r n : ℕ) (f : ℕ → ℕ) (count at : ℕ) (members ends : List ℕ
   ends-length l = rw (w .ends-is) (length-pad 64 _ (rw (length-ends, length-map) (omega (arith, heads-le r f))))
 
 -- all written
-pub groups-done : (n : ℕ) (f : ℕ → ℕ) (count at : ℕ) (members ends : List ℕ) → Written (groupsTo n n f) count at members ends → groupsTell (done count) members ends ≡ groupsWritten (classes n f)
+pub groups-done : (n : ℕ) (f : ℕ → ℕ) (count at : ℕ) (members ends : List ℕ) → Written (groupsTo n n f) count at members ends → outcome (done count) (members, ends) ≡ groupsWritten (classes n f)
 unfolding groupsWritten classes
 groups-done n f count at members ends w = rw (w .count-is, w .members-is, w .ends-is)
 

@@ -1,4 +1,4 @@
 pub mod Answers
 pub mod State
-pub mod Steps
 pub mod Groups
+pub mod steps

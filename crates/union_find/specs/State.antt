@@ -5,8 +5,8 @@ use Prim.Native.Nat.{ℕ, zero, suc, _+_, max}
 use lib.Dec.{eqb, ltb, leb}
 use lib.ListN.{getD, set, replicate}
 use Rattle.lists.specs.Below.{allBelow}
+use Rattle.constraint.specs.Told.{Told, done, refuse, unless}
 use Rattle.union_find.specs.declared.UnionFind.{UnionFind}
-use Rattle.union_find.specs.Answers.{Outcome, done, refused}
 
 -- 'The state of parents and heights is one record by value'; the parent 255 stands for none
 abbrev pub state : List ℕ → List ℕ → UnionFind
@@ -44,19 +44,19 @@ unfoldable pub rootOf : UnionFind → ℕ → ℕ
 rootOf uf i = climb 64 (uf .parents) i
 
 -- find: the root; 1 for a bad record and for 'an element not under C'
-unfoldable pub findOf : ℕ → UnionFind → ℕ → Outcome
-findOf choices uf element = cond (taken choices uf && ltb element choices) (done (rootOf uf element)) (refused 1)
+unfoldable pub findOf : ℕ → UnionFind → ℕ → Told ℕ
+findOf choices uf element = unless (taken choices uf && ltb element choices) 1 (done (rootOf uf element))
 
 -- what a join hands back: the root that both elements now have, and the record
 pub record JoinedTells : Type 0 where
-  pub found : Outcome
+  pub found : Told ℕ
   pub state : UnionFind
 
 -- both as one value
-abbrev pub joinedTells : Outcome → UnionFind → JoinedTells
+abbrev pub joinedTells : Told ℕ → UnionFind → JoinedTells
 joinedTells found uf = record { found = found; state = uf }
 
--- a root 'hangs under the higher, whose height becomes the larger of its own and the other's plus 1'
+-- a root 'hangs under the higher .., whose height becomes the larger of its own and the other's plus 1'
 unfoldable pub hung : UnionFind → ℕ → ℕ → UnionFind
 hung uf lower higher =
     state (set (uf .parents) lower higher) (set (uf .heights) higher (max (heightOf uf higher) (heightOf uf lower + 1)))
@@ -71,7 +71,7 @@ linked uf left right =
 
 -- a join that gets 1 leaves the record as it was
 abbrev pub refusedJoin : UnionFind → JoinedTells
-refusedJoin uf = joinedTells (refused 1) uf
+refusedJoin uf = joinedTells (refuse 1) uf
 
 -- join: the roots linked; 1 for a bad record and for 'an element not under C'
 unfoldable pub joinOf : ℕ → UnionFind → ℕ → ℕ → JoinedTells

@@ -1,16 +1,19 @@
 // Union-find over the elements 0..C-1 (module 1): a record of parents and heights, by value in and by value out.
 use constraint::refusal::Refusal;
+use pools::clear_bytes;
+use pools::wide;
 ghost use mathlib.Core.Path.{_≡_};
 ghost use Prim.Native.Nat.{ℕ, _+_, _-_, _≤_, _<_, max};
-ghost use lib.ListN.{length, getD, replicate};
+ghost use lib.ListN.{length, getD};
 ghost use lib.Seq.{sets};
 ghost use mathlib.Core.List.{[]};
 ghost use Rattle.lists.specs.Group.{classOf, classes};
 ghost use Rattle.lists.specs.Pool.{pad};
-ghost use Rattle.union_find.specs.Answers.{done, foundTells, groupedTells};
+ghost use Rattle.constraint.specs.Told.{done, outcome};
+ghost use Rattle.union_find.specs.Answers.{foundTells, groupedTells};
 ghost use Rattle.union_find.specs.State.{fresh, state, soundAt, taken, climb, findOf, joinedTells, refusedJoin, linked, hung, joinOf};
-ghost use Rattle.union_find.specs.Steps.{Ends, Climbs, Fits};
-ghost use Rattle.union_find.specs.Groups.{groupsTell, groupsWritten, groupsOf};
+ghost use Rattle.union_find.specs.steps.Climbs.{Ends, Climbs, Fits};
+ghost use Rattle.union_find.specs.Groups.{groupsWritten, groupsOf};
 
 // 'The state of parents and heights is one record by value'; the parent 255 stands for none.
 pub struct UnionFind {
@@ -80,7 +83,7 @@ impl UnionFind {
 
     // The classes of equal root, one after another, and where each ends; both pools are 64 long.
     pub fn groups(self, choices: usize, members: &mut [u8], ends: &mut [u8]) -> Grouped
-        ensures { λ r. ⌜ groupsTell (groupedTells r) (now (members .exit)) (now (ends .exit)) ≡ groupsOf choices self (now (members .entry)) (now (ends .entry)) ⌝ }
+        ensures { λ r. ⌜ outcome (groupedTells r) (now (members .exit), now (ends .exit)) ≡ groupsOf choices self (now (members .entry)) (now (ends .entry)) ⌝ }
     {
         if !is_taken(&self.parents, &self.heights, choices) {
             return Grouped::Refused(Refusal::Count);
@@ -145,13 +148,6 @@ fn larger(a: u8, b: u8) -> u8
     ensures { λ r. ⌜ r ≡ max a b ⌝ }
 {
     if a < b { b } else { a }
-}
-
-// A byte as a number.
-fn wide(byte: u8) -> usize
-    ensures { λ r. ⌜ r ≡ byte ⌝ }
-{
-    byte as usize
 }
 
 // The record is taken: C is in its range, and each of the first C entries is sound.
@@ -224,32 +220,21 @@ fn zeros() -> [u8; 64]
     [0u8; 64]
 }
 
-// 'Success zeroes a pool past its result': every place first.
-fn clear(pool: &mut [u8])
-    ensures { λ _. ⌜ now (pool .exit) ≡ replicate (length (now (pool .entry))) 0 ⌝ }
-{
-    let mut i = 0;
-    while i < pool.len() {
-        pool[i] = 0;
-        i += 1;
-    }
-}
-
 // The roots, two clear pools, and the classes in them.
 fn write_all(parents: &[u8], choices: usize, members: &mut [u8], ends: &mut [u8]) -> usize
     requires { ⌜ Climbs (now parents) choices × (length (now members) ≡ 64) × (length (now ends) ≡ 64) ⌝ }
-    ensures { λ r. ⌜ groupsTell (done r) (now (members .exit)) (now (ends .exit)) ≡ groupsWritten (classes choices (climb 64 (now (parents .entry)))) ⌝ }
+    ensures { λ r. ⌜ outcome (done r) (now (members .exit), now (ends .exit)) ≡ groupsWritten (classes choices (climb 64 (now (parents .entry)))) ⌝ }
 {
     let roots = roots_of(parents, choices);
-    clear(members);
-    clear(ends);
+    clear_bytes(members);
+    clear_bytes(ends);
     write_groups(&roots, choices, members, ends)
 }
 
 // The classes of equal root by rising root, written into two clear pools.
 fn write_groups(roots: &[u8], choices: usize, members: &mut [u8], ends: &mut [u8]) -> usize
     requires { ⌜ (length (now roots) ≡ 64) × (choices ≤ 64) × (now members ≡ pad 64 []) × (now ends ≡ pad 64 []) ⌝ }
-    ensures { λ r. ⌜ groupsTell (done r) (now (members .exit)) (now (ends .exit)) ≡ groupsWritten (classes choices (λ i. getD (now (roots .entry)) i 0)) ⌝ }
+    ensures { λ r. ⌜ outcome (done r) (now (members .exit), now (ends .exit)) ≡ groupsWritten (classes choices (λ i. getD (now (roots .entry)) i 0)) ⌝ }
 {
     let mut count = 0;
     let mut at = 0;

@@ -10,41 +10,32 @@ use Rattle.exports.proofs.listed_number.Reads as reads
 use Rattle.exports.proofs.listed_number.Lts as lts
 use Rattle.constraint.proofs.refusal.Refusal.number.Reads as number-reads
 
--- src/lib.rt:152:13
 enum-known-answer : tie.Need-enum-known-answer
 enum-known-answer c = search needs
 
--- src/lib.rt:159:26
 enum-told : tie.Need-enum-told
 enum-told c = search needs
 
--- src/lib.rt:160:25
 enum-known-answer-2 : tie.Need-enum-known-answer-2
 enum-known-answer-2 c = search needs
 
--- src/lib.rt:160:39
 number-requires : tie.Need-number-requires
 number-requires c κs = search needs
 
--- src/lib.rt:160:39
 cast-result : tie.Need-cast-result
 cast-result c = search needs
 
--- src/lib.rt:160:33
 add-result : tie.Need-add-result
 add-result c = search needs
 
--- src/lib.rt:147:1
 returns : tie.Need-returns
 returns c =
     let e = c .before .before .answer .given .1 in
     (sym (ap (λ answer. listedNumber (listedTells answer)) e), sym (ap (λ answer. listedCounts (listedTells answer) (c .before .before .before .before .args .numbers .now)) e))
 
--- src/lib.rt:147:1
 returns-2 : tie.Need-returns-2
 returns-2 c = search needs
 
--- src/lib.rt:147:1
 returns-3 : tie.Need-returns-3
 returns-3 c =
     let e = c .before .before .answer2 .given .1 in

@@ -1,6 +1,7 @@
 -- A refusal's number, 100 higher.
 use mathlib.Core.Path.{_≡_, sym, _∙_, ap}
 use Prim.Native.Nat.{_+_}
+use Rattle.scheduling.specs.Check.{planCheckedTells}
 use Rattle.exports.specs.Answers.{planNumber}
 use borrow.Author.Needs.{needs}
 use Rattle.exports.proofs.plan_number.Statement.{statement}
@@ -9,41 +10,32 @@ use Rattle.exports.proofs.plan_number.Reads as reads
 use Rattle.exports.proofs.plan_number.Lts as lts
 use Rattle.constraint.proofs.refusal.Refusal.number.Reads as number-reads
 
--- src/lib.rt:17:36
 enum-told : tie.Need-enum-told
 enum-told c = search needs
 
--- src/lib.rt:18:34
 enum-told-2 : tie.Need-enum-told-2
 enum-told-2 c = search needs
 
--- src/lib.rt:19:30
 enum-known-answer : tie.Need-enum-known-answer
 enum-known-answer c = search needs
 
--- src/lib.rt:19:44
 number-requires : tie.Need-number-requires
 number-requires c κs = search needs
 
--- src/lib.rt:19:44
 cast-result : tie.Need-cast-result
 cast-result c = search needs
 
--- src/lib.rt:19:38
 add-result : tie.Need-add-result
 add-result c = search needs
 
--- src/lib.rt:13:1
 returns : tie.Need-returns
 returns c = search needs
 
--- src/lib.rt:13:1
 returns-2 : tie.Need-returns-2
 returns-2 c = search needs
 
--- src/lib.rt:13:1
 returns-3 : tie.Need-returns-3
-returns-3 c = ap (λ n. 100 + n) (c .number .ensures) ∙ sym (ap planNumber (c .before .before .answer .given .1))
+returns-3 c = ap (λ n. 100 + n) (c .number .ensures) ∙ sym (ap (λ answer. planNumber (planCheckedTells answer)) (c .before .before .answer .given .1))
 
 pub plan-number-spec : {M : Type 1} → statement M
 plan-number-spec =

@@ -1,7 +1,7 @@
 -- The number of rows or of a clash; a refusal's number, 100,000 higher.
 use mathlib.Core.Path.{_≡_, sym, _∙_, ap}
 use Prim.Native.Nat.{_+_}
-use Rattle.constraints.specs.Reduction.{tells}
+use Rattle.constraints.specs.Reduction.{reducedTells}
 use Rattle.exports.specs.Answers.{reducedNumber}
 use borrow.Author.Needs.{needs}
 use Rattle.exports.proofs.reduced_number.Statement.{statement}
@@ -11,37 +11,29 @@ use Rattle.exports.proofs.reduced_number.Lts as lts
 use Rattle.constraint.proofs.refusal.Refusal.number.Reads as number-reads
 use Rattle.exports.proofs.rows_number.Reads as rows-number-reads
 
--- src/lib.rt:118:23
 enum-known-answer : tie.Need-enum-known-answer
 enum-known-answer c = search needs
 
--- src/lib.rt:118:37
 rows-number-requires : tie.Need-rows-number-requires
 rows-number-requires c κs = search needs
 
--- src/lib.rt:119:26
 enum-known-answer-2 : tie.Need-enum-known-answer-2
 enum-known-answer-2 c = search needs
 
--- src/lib.rt:119:44
 number-requires : tie.Need-number-requires
 number-requires c κs = search needs
 
--- src/lib.rt:119:44
 cast-result : tie.Need-cast-result
 cast-result c = search needs
 
--- src/lib.rt:119:34
 add-result : tie.Need-add-result
 add-result c = search needs
 
--- src/lib.rt:114:1
 returns : tie.Need-returns
-returns c = c .rows-number .ensures ∙ sym (ap (λ answer. reducedNumber (tells answer)) (c .before .before .answer .given .1))
+returns c = c .rows-number .ensures ∙ sym (ap (λ answer. reducedNumber (reducedTells answer)) (c .before .before .answer .given .1))
 
--- src/lib.rt:114:1
 returns-2 : tie.Need-returns-2
-returns-2 c = ap (λ n. 100000 + n) (c .number .ensures) ∙ sym (ap (λ answer. reducedNumber (tells answer)) (c .before .before .answer2 .given .1))
+returns-2 c = ap (λ n. 100000 + n) (c .number .ensures) ∙ sym (ap (λ answer. reducedNumber (reducedTells answer)) (c .before .before .answer2 .given .1))
 
 pub reduced-number-spec : {M : Type 1} → statement M
 reduced-number-spec =

@@ -9,15 +9,12 @@ use Rattle.exports.proofs.thalluscrest_check_plan.Lts as lts
 use Rattle.exports.proofs.plan_number.Reads as plan-number-reads
 use Rattle.scheduling.proofs.plan_check.check_plan.Reads as check-plan-reads
 
--- src/lib.rt:66:17
 check-plan-requires : tie.Need-check-plan-requires
 check-plan-requires c κs = search needs
 
--- src/lib.rt:66:5
 plan-number-requires : tie.Need-plan-number-requires
 plan-number-requires c κs = search needs
 
--- src/lib.rt:47:1
 returns : tie.Need-returns
 returns c = c .plan-number .ensures ∙ ap planNumber (c .before .check-plan .ensures)
 

@@ -1,5 +1,5 @@
 -- The numbers of what the listing answers, and the buffer that it leaves.
-use Rattle.exports.proofs.ListingLaws.{plans-told-by}
+use Rattle.exports.proofs.NumberLaws.{plans-told-by}
 use borrow.Author.Needs.{needs}
 use Rattle.exports.proofs.thalluscrest_list_plans.Statement.{statement}
 use Rattle.exports.proofs.thalluscrest_list_plans.Tie as tie
@@ -8,19 +8,15 @@ use Rattle.exports.proofs.thalluscrest_list_plans.Lts as lts
 use Rattle.exports.proofs.listed_number.Reads as listed-number-reads
 use Rattle.listing.proofs.list_plans.list_plans.Reads as list-plans-reads
 
--- src/lib.rt:188:9
 list-plans-requires : tie.Need-list-plans-requires
 list-plans-requires c κs = search needs
 
--- src/lib.rt:199:5
 listed-number-requires : tie.Need-listed-number-requires
 listed-number-requires c κs = search needs
 
--- src/lib.rt:165:1
 same-length : tie.Need-same-length
 same-length c = search needs
 
--- src/lib.rt:165:1
 returns : tie.Need-returns
 returns c =
     plans-told-by _ _ _ (c .listed-number .ensures .0) (c .listed-number .ensures .1) (c .before .before .before .before .list-plans .ensures)

@@ -1,5 +1,6 @@
 -- The number of what the reader answers, and the pools that it leaves.
-use Rattle.exports.proofs.ReadLaws.{told-by}
+use Rattle.exports.specs.Answers.{readNumber}
+use Rattle.exports.proofs.NumberLaws.{told-by}
 use borrow.Author.Needs.{needs}
 use Rattle.exports.proofs.thalluscrest_read_day.Statement.{statement}
 use Rattle.exports.proofs.thalluscrest_read_day.Tie as tie
@@ -8,41 +9,34 @@ use Rattle.exports.proofs.thalluscrest_read_day.Lts as lts
 use Rattle.day_file.proofs.read.read_day.Reads as read-day-reads
 use Rattle.exports.proofs.read_number.Reads as read-number-reads
 
--- src/lib.rt:96:17
 read-day-requires : tie.Need-read-day-requires
 read-day-requires c κs = search needs
 
--- src/lib.rt:96:5
 read-number-requires : tie.Need-read-number-requires
 read-number-requires c κs = search needs
 
--- src/lib.rt:84:1
 same-length : tie.Need-same-length
 same-length c = search needs
 
--- src/lib.rt:84:1
 same-length-2 : tie.Need-same-length-2
 same-length-2 c = search needs
 
--- src/lib.rt:84:1
 same-length-3 : tie.Need-same-length-3
 same-length-3 c = search needs
 
--- src/lib.rt:84:1
 same-length-4 : tie.Need-same-length-4
 same-length-4 c = search needs
 
--- src/lib.rt:84:1
 same-length-5 : tie.Need-same-length-5
 same-length-5 c = search needs
 
--- src/lib.rt:84:1
 same-length-6 : tie.Need-same-length-6
 same-length-6 c = search needs
 
--- src/lib.rt:84:1
 returns : tie.Need-returns
-returns c = told-by _ _ (c .read-number .ensures) (c .before .before .before .before .before .before .before .before .before .before .before .before .before .read-day .ensures)
+returns c =
+    let read = c .before .before .before .before .before .before .before .before .before .before .before .before .before .read-day in
+    told-by readNumber _ _ (c .read-number .ensures) (read .ensures)
 
 pub thalluscrest-read-day-spec : {M : Type 1} → statement M
 thalluscrest-read-day-spec =

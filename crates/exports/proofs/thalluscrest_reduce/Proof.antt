@@ -1,5 +1,6 @@
 -- The number of what the reduction answers, and the pool that it leaves.
-use Rattle.exports.proofs.ReduceLaws.{rows-told-by}
+use Rattle.exports.specs.Answers.{reducedNumber}
+use Rattle.exports.proofs.NumberLaws.{told-by}
 use borrow.Author.Needs.{needs}
 use Rattle.exports.proofs.thalluscrest_reduce.Statement.{statement}
 use Rattle.exports.proofs.thalluscrest_reduce.Tie as tie
@@ -8,21 +9,17 @@ use Rattle.exports.proofs.thalluscrest_reduce.Lts as lts
 use Rattle.constraints.proofs.reduce.Reads as reduce-reads
 use Rattle.exports.proofs.reduced_number.Reads as reduced-number-reads
 
--- src/lib.rt:140:20
 reduce-requires : tie.Need-reduce-requires
 reduce-requires c κs = search needs
 
--- src/lib.rt:140:5
 reduced-number-requires : tie.Need-reduced-number-requires
 reduced-number-requires c κs = search needs
 
--- src/lib.rt:124:1
 same-length : tie.Need-same-length
 same-length c = search needs
 
--- src/lib.rt:124:1
 returns : tie.Need-returns
-returns c = rows-told-by _ _ (c .reduced-number .ensures) (c .before .before .before .reduce .ensures)
+returns c = told-by reducedNumber _ _ (c .reduced-number .ensures) (c .before .before .before .reduce .ensures)
 
 pub thalluscrest-reduce-spec : {M : Type 1} → statement M
 thalluscrest-reduce-spec =

@@ -8,7 +8,7 @@ use borrow.Fn.PlainCycle.{Measures, is, falls, and}
 use Rattle.union_find.proofs.climb.Reads as climb
 use Rattle.union_find.proofs.climb.Kinds as climb-kinds
 use Rattle.union_find.proofs.+climb.Lts-climb as climb-lts
-use Rattle.union_find.proofs.wide.Reads as wide-reads
+use Rattle.pools.proofs.wide.Reads as wide-reads
 use Rattle.union_find.proofs.+climb.{statement}
 use Rattle.union_find.proofs.+climb.Tie.{close}
 

@@ -10,11 +10,11 @@ use Rattle.union_find.proofs.write_all.Tie as tie
 roots-of-requires : tie.Need-roots-of-requires
 roots-of-requires c κs = search needs
 
-clear-requires : tie.Need-clear-requires
-clear-requires c κs = search needs
+clear-bytes-requires : tie.Need-clear-bytes-requires
+clear-bytes-requires c κs = search needs
 
-clear-requires-2 : tie.Need-clear-requires-2
-clear-requires-2 c κs = search needs
+clear-bytes-requires-2 : tie.Need-clear-bytes-requires-2
+clear-bytes-requires-2 c κs = search needs
 
 slice-aggregate-write-groups : tie.Need-slice-aggregate-write-groups
 slice-aggregate-write-groups c = search needs
@@ -23,7 +23,7 @@ write-groups-requires : tie.Need-write-groups-requires
 write-groups-requires c κs =
     let a = c .before .before .before .before .before .before .before .before .before .before .before .before .before .before .before in
     let h = a .pre in
-    (c .before .before .before .before .before .before .before .before .before .before .before .roots-of .ensures .0, h .0 .small, cleared _ (a .args .members .now) (c .before .before .before .before .before .before .before .before .before .clear .ensures) (h .1), cleared _ (a .args .ends .now) (c .before .before .before .before .before .clear2 .ensures) (h .2))
+    (c .before .before .before .before .before .before .before .before .before .before .before .roots-of .ensures .0, h .0 .small, cleared _ (a .args .members .now) (c .before .before .before .before .before .before .before .before .before .clear-bytes .ensures) (h .1), cleared _ (a .args .ends .now) (c .before .before .before .before .before .clear-bytes2 .ensures) (h .2))
 
 same-length : tie.Need-same-length
 same-length c = search needs
@@ -40,8 +40,8 @@ write-all-spec =
     tie.close
     (tie.spec
     roots-of-requires
-    clear-requires
-    clear-requires-2
+    clear-bytes-requires
+    clear-bytes-requires-2
     slice-aggregate-write-groups
     write-groups-requires
     same-length

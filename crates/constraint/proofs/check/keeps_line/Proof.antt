@@ -1,8 +1,8 @@
 -- Each return is one law: the columns before it hold, and its own does not.
 use mathlib.Core.Path.{_≡_, refl, sym, _∙_}
 use borrow.Author.Tests.{not-true, not-false}
-use Rattle.constraint.proofs.CheckLaws.{fault-kind, fault-left, fault-right, fault-extra, keeps-by}
-use Rattle.constraint.proofs.LineLaws.{left-named, right-named, extra-named, column-is, last-decides}
+use Rattle.constraint.proofs.CheckLaws.{kind-fails, left-fails, right-fails, extra-decides}
+use Rattle.constraint.proofs.LineLaws.{left-named, right-named, extra-named, column-is}
 use borrow.Author.Needs.{needs}
 use Rattle.constraint.proofs.check.keeps_line.Statement.{statement}
 use Rattle.constraint.proofs.check.keeps_line.Tie as tie
@@ -12,7 +12,7 @@ takes-part-requires c κs = search needs
 
 returns : tie.Need-returns
 returns c =
-    keeps-by _ _ _ refl (fault-kind _ _ _ (c .before .before .pre) (sym (c .before .takes-part .ensures) ∙ not-true _ (c .if1 .taken)))
+    (kind-fails _ _ _ (c .before .before .pre) (sym (c .before .takes-part .ensures) ∙ not-true _ (c .if1 .taken)))
 
 left-of-requires : tie.Need-left-of-requires
 left-of-requires c κs = search needs
@@ -25,7 +25,7 @@ left-holds-requires c κs =
 returns-2 : tie.Need-returns-2
 returns-2 c =
     let a = c .before .before .before .before .before .args in
-    keeps-by _ _ _ refl (fault-left _ _ _ (c .before .before .before .before .before .pre) (sym (c .before .before .before .before .takes-part .ensures) ∙ not-false _ (c .before .before .before .if1 .left)) (column-is (a .counts) (a .columns .1) (c .before .left-holds .ensures) (c .before .before .left-of .ensures) (not-true _ (c .if2 .taken))))
+    (left-fails _ _ _ (c .before .before .before .before .before .pre) (sym (c .before .before .before .before .takes-part .ensures) ∙ not-false _ (c .before .before .before .if1 .left)) (column-is (a .counts) (a .columns .1) (c .before .left-holds .ensures) (c .before .before .left-of .ensures) (not-true _ (c .if2 .taken))))
 
 right-of-requires : tie.Need-right-of-requires
 right-of-requires c κs = search needs
@@ -38,7 +38,7 @@ right-holds-requires c κs =
 returns-3 : tie.Need-returns-3
 returns-3 c =
     let a = c .before .before .before .before .before .before .before .before .args in
-    keeps-by _ _ _ refl (fault-right _ _ _ (c .before .before .before .before .before .before .before .before .pre) (sym (c .before .before .before .before .before .before .before .takes-part .ensures) ∙ not-false _ (c .before .before .before .before .before .before .if1 .left)) (column-is (a .counts) (a .columns .1) (c .before .before .before .before .left-holds .ensures) (c .before .before .before .before .before .left-of .ensures) (not-false _ (c .before .before .before .if2 .left))) (column-is (a .counts) (a .columns .2) (c .before .right-holds .ensures) (c .before .before .right-of .ensures) (not-true _ (c .if3 .taken))))
+    (right-fails _ _ _ (c .before .before .before .before .before .before .before .before .pre) (sym (c .before .before .before .before .before .before .before .takes-part .ensures) ∙ not-false _ (c .before .before .before .before .before .before .if1 .left)) (column-is (a .counts) (a .columns .1) (c .before .before .before .before .left-holds .ensures) (c .before .before .before .before .before .left-of .ensures) (not-false _ (c .before .before .before .if2 .left))) (column-is (a .counts) (a .columns .2) (c .before .right-holds .ensures) (c .before .before .right-of .ensures) (not-true _ (c .if3 .taken))))
 
 extra-of-requires : tie.Need-extra-of-requires
 extra-of-requires c κs = search needs
@@ -51,7 +51,7 @@ extra-holds-requires c κs =
 returns-4 : tie.Need-returns-4
 returns-4 c =
     let a = c .before .before .before .before .before .before .before .before .before .before .args in
-    last-decides _ ∙ keeps-by _ _ _ refl (fault-extra _ _ _ (c .before .before .before .before .before .before .before .before .before .before .pre) _ (sym (c .before .before .before .before .before .before .before .before .before .takes-part .ensures) ∙ not-false _ (c .before .before .before .before .before .before .before .before .if1 .left)) (column-is (a .counts) (a .columns .1) (c .before .before .before .before .before .before .left-holds .ensures) (c .before .before .before .before .before .before .before .left-of .ensures) (not-false _ (c .before .before .before .before .before .if2 .left))) (column-is (a .counts) (a .columns .2) (c .before .before .before .right-holds .ensures) (c .before .before .before .before .right-of .ensures) (not-false _ (c .before .before .if3 .left))) (column-is (a .counts) (a .columns .3) (c .extra-holds .ensures) (c .before .extra-of .ensures) (refl)))
+    (extra-decides _ _ _ (c .before .before .before .before .before .before .before .before .before .before .pre) _ (sym (c .before .before .before .before .before .before .before .before .before .takes-part .ensures) ∙ not-false _ (c .before .before .before .before .before .before .before .before .if1 .left)) (column-is (a .counts) (a .columns .1) (c .before .before .before .before .before .before .left-holds .ensures) (c .before .before .before .before .before .before .before .left-of .ensures) (not-false _ (c .before .before .before .before .before .if2 .left))) (column-is (a .counts) (a .columns .2) (c .before .before .before .right-holds .ensures) (c .before .before .before .before .right-of .ensures) (not-false _ (c .before .before .if3 .left))) (column-is (a .counts) (a .columns .3) (c .extra-holds .ensures) (c .before .extra-of .ensures) (refl)))
 
 pub keeps-line-spec : {M : Type 1} → statement M
 keeps-line-spec =

@@ -3,7 +3,7 @@ use mathlib.Core.Path.{_≡_, refl, sym, _∙_, ap}
 use Prim.Native.Nat.{ℕ, _+_, _-_, _≤_, _<_}
 use native.Mathlib.Omega.{arith}
 use lib.ListN.{length}
-use Rattle.lists.specs.Cut.{cutAt}
+use Rattle.lists.specs.steps.Cut.{cutAt}
 use Rattle.lists.proofs.Stores.{Each, each-start, each-part, each-end, each-count}
 use Rattle.constraints.specs.Copies.{copiesOf}
 use borrow.Author.Needs.{needs}

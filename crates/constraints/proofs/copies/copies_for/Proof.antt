@@ -2,7 +2,7 @@
 use mathlib.Core.Path.{_≡_, refl, sym, _∙_, ap}
 use native.Mathlib.Omega.{arith}
 use borrow.Author.Tests.{not-true, not-false}
-use Rattle.lists.specs.Cut.{cutAt}
+use Rattle.lists.specs.steps.Cut.{cutAt}
 use Rattle.lists.proofs.Stores.{stored-none}
 use Rattle.constraints.proofs.Copying.{uncopied, copied}
 use borrow.Author.Needs.{needs}

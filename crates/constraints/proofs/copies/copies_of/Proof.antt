@@ -11,7 +11,7 @@ use Rattle.constraints.proofs.copies.copies_of.Tie as tie
 use Rattle.constraints.proofs.copies.copies_of.Reads as reads
 use Rattle.constraints.proofs.copies.copies_of.Lts as lts
 use Rattle.constraints.proofs.copies.copies_in.Reads as copies-in-reads
-use Rattle.constraints.proofs.groups.wide.Reads as wide-reads
+use Rattle.pools.proofs.wide.Reads as wide-reads
 
 abbrev Inv-loop : tie.InvT-loop
 Inv-loop row members ends free₀ from at₀ start₀ i₀ free at start i = Cuts (copiesIn row) ends members free₀ from free at start i

@@ -3,7 +3,7 @@ use mathlib.Core.Path.{_≡_, refl, sym, _∙_, ap}
 use native.Mathlib.Omega.{arith}
 use mathlib.Core.List.{_++_}
 use lib.ListN.{length}
-use Rattle.lists.specs.Cut.{cutAt}
+use Rattle.lists.specs.steps.Cut.{cutAt}
 use Rattle.constraints.specs.Pairs.{groupPairs, mandatoryPairs}
 use Rattle.constraints.specs.Copies.{copiesAll}
 use Rattle.constraints.proofs.Bounds.{group-pairs-most, mandatory-pairs-most, copies-most}

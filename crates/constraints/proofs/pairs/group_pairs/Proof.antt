@@ -11,7 +11,7 @@ use Rattle.constraints.proofs.pairs.group_pairs.Tie as tie
 use Rattle.constraints.proofs.pairs.group_pairs.Reads as reads
 use Rattle.constraints.proofs.pairs.group_pairs.Lts as lts
 use Rattle.constraints.proofs.pairs.pairs_of.Reads as pairs-of-reads
-use Rattle.constraints.proofs.groups.wide.Reads as wide-reads
+use Rattle.pools.proofs.wide.Reads as wide-reads
 
 abbrev Inv-loop : tie.InvT-loop
 Inv-loop members ends free₀ at₀ start₀ i₀ free at start i = Cuts pairsOf ends members free₀ 0 free at start i

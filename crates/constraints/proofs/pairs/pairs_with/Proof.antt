@@ -7,6 +7,7 @@ use lib.ListN.{length, set, drop, drop-of-length-le}
 use Rattle.lists.proofs.Stores.{Stores, stores-start, stores-one, stores-end}
 use Rattle.lists.proofs.Keep.{map-at}
 use Rattle.constraints.specs.Pairs.{pairRow}
+use Rattle.constraints.proofs.Pairing.{pair-row-is}
 use borrow.Author.Needs.{needs}
 use Rattle.constraints.proofs.pairs.pairs_with.Statement.{statement}
 use Rattle.constraints.proofs.pairs.pairs_with.Tie as tie
@@ -14,6 +15,7 @@ use Rattle.constraints.proofs.pairs.pairs_with.Reads as reads
 use Rattle.constraints.proofs.pairs.pairs_with.Lts as lts
 use Rattle.constraints.proofs.free.put.Reads as put-reads
 use Rattle.constraints.proofs.pairs.pair_row.Reads as pair-row-reads
+use Rattle.constraint.proofs.row.Row.number.Reads as number-reads
 
 abbrev Inv-loop : tie.InvT-loop
 Inv-loop left list free₀ from at₀ j₀ free at j = (j ≤ length list) × Stores free₀ from (map (pairRow left) list) free at (map (pairRow left) (drop j list))
@@ -38,12 +40,16 @@ pair-row-requires : tie.Need-pair-row-requires Inv-loop μ-loop
 pair-row-requires c κs = search needs
 
 -- src/pairs.rt:33:9
+number-requires : tie.Need-number-requires Inv-loop μ-loop
+number-requires c κs = search needs
+
+-- src/pairs.rt:33:9
 put-requires : tie.Need-put-requires Inv-loop μ-loop
 put-requires c κs = search needs
 
 -- src/pairs.rt:34:9
 add-at : tie.Need-add-at Inv-loop μ-loop
-add-at c = omega (arith, c .before .before .before .before .before .before .before .loop .inv .1 .counted, c .before .before .before .before .before .before .before .before .before .before .pre)
+add-at c = omega (arith, c .before .before .before .before .before .before .before .before .loop .inv .1 .counted, c .before .before .before .before .before .before .before .before .before .before .before .pre)
 
 -- src/pairs.rt:35:9
 add-j : tie.Need-add-j Inv-loop μ-loop
@@ -56,8 +62,8 @@ loop-less c = search needs
 -- src/pairs.rt:32:5
 loop-again : tie.Need-loop-again Inv-loop μ-loop
 loop-again c =
-    let l = c .before .before .before .before .before .before .before .loop in
-    (omega arith, stores-one _ _ (map-at _ _ (l .j) 0 (c .before .before .before .before .before .before .loop-test .taken)) (l .inv .1) (c .before .before .put .ensures ∙ ap (set (l .free) (l .at)) (c .before .before .before .pair-row .ensures)))
+    let l = c .before .before .before .before .before .before .before .before .loop in
+    (omega arith, stores-one _ _ (map-at _ _ (l .j) 0 (c .before .before .before .before .before .before .before .loop-test .taken)) (l .inv .1) (c .before .before .put .ensures ∙ ap (set (l .free) (l .at)) (pair-row-is _ _ (c .before .before .before .before .pair-row .ensures) (c .before .before .before .number .ensures))))
 
 -- src/pairs.rt:26:1
 same-length : tie.Need-same-length Inv-loop μ-loop
@@ -79,6 +85,7 @@ pairs-with-spec =
     mul-pair-row
     shared-slice-read-pair-row
     pair-row-requires
+    number-requires
     put-requires
     add-at
     add-j

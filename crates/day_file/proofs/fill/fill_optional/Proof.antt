@@ -1,60 +1,39 @@
--- The loop's invariant: the first i entries are those of the padded list.
-use mathlib.Core.Path.{_≡_, refl}
-use Prim.Native.Nat.{_+_, _*_, _-_, _≤_}
-use native.Mathlib.Omega.{arith}
-use lib.ListN.{length, getD, take, length-set}
-use Rattle.lists.specs.Flat.{listBelow, orZero}
-use Rattle.lists.proofs.Flat.{fill-start, fill-next, fill-done}
+-- The file's entries, and zeros after them.
+use Rattle.pools.proofs.Clearing.{cleared-past}
 use borrow.Author.Needs.{needs}
 use Rattle.day_file.proofs.fill.fill_optional.Statement.{statement}
 use Rattle.day_file.proofs.fill.fill_optional.Tie as tie
 
-abbrev Inv-loop : tie.InvT-loop
-Inv-loop file n pool₀ i₀ pool i =
-    (i ≤ length pool) × (length pool ≡ length pool₀) × (take i pool ≡ listBelow i (orZero n (λ k. getD file (15 + 5 * k) 0)))
+put-optional-requires : tie.Need-put-optional-requires
+put-optional-requires c κs = search needs
 
-abbrev μ-loop : tie.MeasureT-loop
-μ-loop file n pool₀ i₀ pool i =
-    length pool₀ - i
+sub-clear-bytes : tie.Need-sub-clear-bytes
+sub-clear-bytes c = search needs
 
-loop-holds : tie.Need-loop-holds Inv-loop μ-loop
-loop-holds c =
-    (search needs, refl, fill-start _)
+part-clear-bytes-start : tie.Need-part-clear-bytes-start
+part-clear-bytes-start c = search needs
 
-optional-or-zero-requires : tie.Need-optional-or-zero-requires Inv-loop μ-loop
-optional-or-zero-requires c κs = search needs
+part-clear-bytes-end : tie.Need-part-clear-bytes-end
+part-clear-bytes-end c = search needs
 
-slice-write-pool : tie.Need-slice-write-pool Inv-loop μ-loop
-slice-write-pool c = search needs
+clear-bytes-requires : tie.Need-clear-bytes-requires
+clear-bytes-requires c κs = search needs
 
-add-i : tie.Need-add-i Inv-loop μ-loop
-add-i c = search needs
-
-loop-less : tie.Need-loop-less Inv-loop μ-loop
-loop-less c = search needs
-
-loop-again : tie.Need-loop-again Inv-loop μ-loop
-loop-again c =
-    (simp length-set (omega arith), simp length-set (c .before .before .loop .inv .1), fill-next _ _ _ _ (c .before .loop-test .taken) (c .before .before .loop .inv .2) (c .optional-or-zero .ensures))
-
-same-length : tie.Need-same-length Inv-loop μ-loop
+same-length : tie.Need-same-length
 same-length c = search needs
 
-returns : tie.Need-returns Inv-loop μ-loop
+returns : tie.Need-returns
 returns c =
-    fill-done _ _ _ _ _ (c .before .before .before .before .pre .0) (c .before .loop .inv .1) (omega arith) (omega arith) (c .before .loop .inv .2)
+    cleared-past _ _ _ _ _ (c .before .before .before .before .before .pool .given) (c .before .before .before .before .before .before .before .before .before .before .pre .0) (c .before .before .before .before .before .before .put-optional .ensures) (c .before .before .clear-bytes .ensures)
 
 pub fill-optional-spec : {M : Type 1} → statement M
 fill-optional-spec =
     tie.close
     (tie.spec
-    Inv-loop
-    μ-loop
-    loop-holds
-    optional-or-zero-requires
-    slice-write-pool
-    add-i
-    loop-less
-    loop-again
+    put-optional-requires
+    sub-clear-bytes
+    part-clear-bytes-start
+    part-clear-bytes-end
+    clear-bytes-requires
     same-length
     returns)

@@ -1,65 +1,43 @@
--- The loop's invariant: the first i entries are those of the padded list.
-use mathlib.Core.Path.{_≡_, refl}
-use Prim.Native.Nat.{_+_, _*_, _-_, _≤_}
-use native.Mathlib.Omega.{arith}
-use lib.ListN.{length, take, length-set}
-use Rattle.lists.specs.Flat.{listBelow, orZero}
-use Rattle.lists.proofs.Flat.{fill-start, fill-next, fill-done}
-use Rattle.day_file.specs.File.{rowAt}
+-- The file's entries, and zeros after them.
+use Rattle.pools.proofs.Clearing.{cleared-past}
 use borrow.Author.Needs.{needs}
 use Rattle.day_file.proofs.fill.fill_rows.Statement.{statement}
 use Rattle.day_file.proofs.fill.fill_rows.Tie as tie
 
-abbrev Inv-loop : tie.InvT-loop
-Inv-loop file at n pool₀ i₀ pool i =
-    (i ≤ length pool) × (length pool ≡ length pool₀) × (take i pool ≡ listBelow i (orZero n (λ k. rowAt file (at + 6 * k))))
+put-rows-requires : tie.Need-put-rows-requires
+put-rows-requires c κs = search needs
 
-abbrev μ-loop : tie.MeasureT-loop
-μ-loop file at n pool₀ i₀ pool i =
-    length pool₀ - i
+mul-clear-numbers : tie.Need-mul-clear-numbers
+mul-clear-numbers c = search needs
 
-loop-holds : tie.Need-loop-holds Inv-loop μ-loop
-loop-holds c =
-    (search needs, refl, fill-start _)
+sub-clear-numbers : tie.Need-sub-clear-numbers
+sub-clear-numbers c = search needs
 
-row-or-zero-requires : tie.Need-row-or-zero-requires Inv-loop μ-loop
-row-or-zero-requires c κs = search needs
+part-clear-numbers-start : tie.Need-part-clear-numbers-start
+part-clear-numbers-start c = search needs
 
-mul-pool : tie.Need-mul-pool Inv-loop μ-loop
-mul-pool c = search needs
+part-clear-numbers-end : tie.Need-part-clear-numbers-end
+part-clear-numbers-end c = search needs
 
-slice-write-pool : tie.Need-slice-write-pool Inv-loop μ-loop
-slice-write-pool c = search needs
+clear-numbers-requires : tie.Need-clear-numbers-requires
+clear-numbers-requires c κs = search needs
 
-add-i : tie.Need-add-i Inv-loop μ-loop
-add-i c = search needs
-
-loop-less : tie.Need-loop-less Inv-loop μ-loop
-loop-less c = search needs
-
-loop-again : tie.Need-loop-again Inv-loop μ-loop
-loop-again c =
-    (simp length-set (omega arith), simp length-set (c .before .before .loop .inv .1), fill-next _ _ _ _ (c .before .loop-test .taken) (c .before .before .loop .inv .2) (c .row-or-zero .ensures))
-
-same-length : tie.Need-same-length Inv-loop μ-loop
+same-length : tie.Need-same-length
 same-length c = search needs
 
-returns : tie.Need-returns Inv-loop μ-loop
+returns : tie.Need-returns
 returns c =
-    fill-done _ _ _ _ _ (c .before .before .before .before .pre .0) (c .before .loop .inv .1) (omega arith) (omega arith) (c .before .loop .inv .2)
+    cleared-past _ _ _ _ _ (c .before .before .before .before .before .pool .given) (c .before .before .before .before .before .before .before .before .before .before .pre .0) (c .before .before .before .before .before .before .put-rows .ensures) (c .before .before .clear-numbers .ensures)
 
 pub fill-rows-spec : {M : Type 1} → statement M
 fill-rows-spec =
     tie.close
     (tie.spec
-    Inv-loop
-    μ-loop
-    loop-holds
-    row-or-zero-requires
-    mul-pool
-    slice-write-pool
-    add-i
-    loop-less
-    loop-again
+    put-rows-requires
+    mul-clear-numbers
+    sub-clear-numbers
+    part-clear-numbers-start
+    part-clear-numbers-end
+    clear-numbers-requires
     same-length
     returns)

@@ -1,65 +1,43 @@
--- The loop's invariant: the first i entries are those of the padded list.
-use mathlib.Core.Path.{_≡_, refl}
-use Prim.Native.Nat.{_+_, _*_, _-_, _≤_}
-use native.Mathlib.Omega.{arith}
-use lib.ListN.{length, take, length-set}
-use Rattle.lists.specs.Flat.{listBelow, orZero}
-use Rattle.lists.proofs.Flat.{fill-start, fill-next, fill-done}
-use Rattle.day_file.specs.File.{wordAt}
+-- The file's entries, and zeros after them.
+use Rattle.pools.proofs.Clearing.{cleared-past}
 use borrow.Author.Needs.{needs}
 use Rattle.day_file.proofs.fill.fill_words.Statement.{statement}
 use Rattle.day_file.proofs.fill.fill_words.Tie as tie
 
-abbrev Inv-loop : tie.InvT-loop
-Inv-loop file at step n pool₀ i₀ pool i =
-    (i ≤ length pool) × (length pool ≡ length pool₀) × (take i pool ≡ listBelow i (orZero n (λ k. wordAt file (at + step * k))))
+put-words-requires : tie.Need-put-words-requires
+put-words-requires c κs = search needs
 
-abbrev μ-loop : tie.MeasureT-loop
-μ-loop file at step n pool₀ i₀ pool i =
-    length pool₀ - i
+mul-clear-words : tie.Need-mul-clear-words
+mul-clear-words c = search needs
 
-loop-holds : tie.Need-loop-holds Inv-loop μ-loop
-loop-holds c =
-    (search needs, refl, fill-start _)
+sub-clear-words : tie.Need-sub-clear-words
+sub-clear-words c = search needs
 
-word-or-zero-requires : tie.Need-word-or-zero-requires Inv-loop μ-loop
-word-or-zero-requires c κs = search needs
+part-clear-words-start : tie.Need-part-clear-words-start
+part-clear-words-start c = search needs
 
-mul-pool : tie.Need-mul-pool Inv-loop μ-loop
-mul-pool c = search needs
+part-clear-words-end : tie.Need-part-clear-words-end
+part-clear-words-end c = search needs
 
-slice-write-pool : tie.Need-slice-write-pool Inv-loop μ-loop
-slice-write-pool c = search needs
+clear-words-requires : tie.Need-clear-words-requires
+clear-words-requires c κs = search needs
 
-add-i : tie.Need-add-i Inv-loop μ-loop
-add-i c = search needs
-
-loop-less : tie.Need-loop-less Inv-loop μ-loop
-loop-less c = search needs
-
-loop-again : tie.Need-loop-again Inv-loop μ-loop
-loop-again c =
-    (simp length-set (omega arith), simp length-set (c .before .before .loop .inv .1), fill-next _ _ _ _ (c .before .loop-test .taken) (c .before .before .loop .inv .2) (c .word-or-zero .ensures))
-
-same-length : tie.Need-same-length Inv-loop μ-loop
+same-length : tie.Need-same-length
 same-length c = search needs
 
-returns : tie.Need-returns Inv-loop μ-loop
+returns : tie.Need-returns
 returns c =
-    fill-done _ _ _ _ _ (c .before .before .before .before .pre .0) (c .before .loop .inv .1) (omega arith) (omega arith) (c .before .loop .inv .2)
+    cleared-past _ _ _ _ _ (c .before .before .before .before .before .pool .given) (c .before .before .before .before .before .before .before .before .before .before .pre .0) (c .before .before .before .before .before .before .put-words .ensures) (c .before .before .clear-words .ensures)
 
 pub fill-words-spec : {M : Type 1} → statement M
 fill-words-spec =
     tie.close
     (tie.spec
-    Inv-loop
-    μ-loop
-    loop-holds
-    word-or-zero-requires
-    mul-pool
-    slice-write-pool
-    add-i
-    loop-less
-    loop-again
+    put-words-requires
+    mul-clear-words
+    sub-clear-words
+    part-clear-words-start
+    part-clear-words-end
+    clear-words-requires
     same-length
     returns)

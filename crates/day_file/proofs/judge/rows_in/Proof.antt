@@ -4,9 +4,8 @@ use mathlib.Core.List.{List}
 use Prim.Native.Nat.{ℕ}
 use lib.ListN.{length}
 use Rattle.lists.proofs.Flat.{length-list}
-use Rattle.constraint.specs.Check.{rowsOf}
+use Rattle.constraint.specs.Check.{rowsJudged}
 use Rattle.constraint.specs.declared.check.Takes.the-variants as takes
-use Rattle.day_file.proofs.JudgeLaws.{rows-read}
 use borrow.Author.Needs.{needs}
 use Rattle.day_file.proofs.judge.rows_in.Statement.{statement}
 use Rattle.day_file.proofs.judge.rows_in.Tie as tie
@@ -14,33 +13,33 @@ use Rattle.day_file.proofs.judge.rows_in.Tie as tie
 no-rows-requires : tie.Need-no-rows-requires
 no-rows-requires c κs = search needs
 
-slice-aggregate-fill-rows : tie.Need-slice-aggregate-fill-rows
-slice-aggregate-fill-rows c = search needs
+slice-aggregate-put-rows : tie.Need-slice-aggregate-put-rows
+slice-aggregate-put-rows c = search needs
 
-fill-rows-requires : tie.Need-fill-rows-requires
-fill-rows-requires c κs = search needs
+put-rows-requires : tie.Need-put-rows-requires
+put-rows-requires c κs = search needs
 
 array-share-prefix-rows : tie.Need-array-share-prefix-rows
 array-share-prefix-rows c = search needs
 
 slice-aggregate-check-each-row : tie.Need-slice-aggregate-check-each-row
 slice-aggregate-check-each-row c =
-    sym (ap length (rows-read _ _ _ (c .before .before .fill-rows .ensures)) ∙ length-list _ _)
+    sym (ap length (c .before .before .put-rows .ensures) ∙ length-list _ _)
 
 check-each-row-requires : tie.Need-check-each-row-requires
 check-each-row-requires c κs = search needs
 
 returns : tie.Need-returns
 returns c =
-    c .check-each-row .ensures ∙ ap (λ (l : List ℕ). rowsOf (c .before .before .before .before .before .before .before .args .counts) takes.All l) (rows-read _ _ _ (c .before .before .before .fill-rows .ensures))
+    c .check-each-row .ensures ∙ ap (λ (l : List ℕ). rowsJudged (c .before .before .before .before .before .before .before .args .counts) takes.Given l) (c .before .before .before .put-rows .ensures)
 
 pub rows-in-spec : {M : Type 1} → statement M
 rows-in-spec =
     tie.close
     (tie.spec
     no-rows-requires
-    slice-aggregate-fill-rows
-    fill-rows-requires
+    slice-aggregate-put-rows
+    put-rows-requires
     array-share-prefix-rows
     slice-aggregate-check-each-row
     check-each-row-requires

@@ -31,15 +31,15 @@ add-word-at-2 c = search needs
 word-at-requires-2 : tie.Need-word-at-requires-2
 word-at-requires-2 c κs = search needs
 
-turn-requires : tie.Need-turn-requires
-turn-requires c κs = search needs
+flip-sign-bit-requires : tie.Need-flip-sign-bit-requires
+flip-sign-bit-requires c κs = search needs
 
 number-requires : tie.Need-number-requires
 number-requires c κs = search needs
 
 returns : tie.Need-returns
 returns c =
-    row-read _ _ (c .before .before .before .before .before .before .wide .ensures .0) (c .before .before .before .before .wide2 .ensures .0) (c .before .before .before .word-at .ensures) (c .before .before .word-at2 .ensures) (c .before .turn .ensures) (c .number .ensures)
+    row-read _ _ (c .before .before .before .before .before .before .wide .ensures .0) (c .before .before .before .before .wide2 .ensures .0) (c .before .before .before .word-at .ensures) (c .before .before .word-at2 .ensures) (c .before .flip-sign-bit .ensures) (c .number .ensures)
 
 pub row-at-spec : {M : Type 1} → statement M
 row-at-spec =
@@ -54,6 +54,6 @@ row-at-spec =
     word-at-requires
     add-word-at-2
     word-at-requires-2
-    turn-requires
+    flip-sign-bit-requires
     number-requires
     returns)

@@ -38,8 +38,8 @@ put-word-requires c κs =
 add-put-word-2 : tie.Need-add-put-word-2
 add-put-word-2 c = search needs
 
-turn-requires : tie.Need-turn-requires
-turn-requires c κs = search needs
+flip-sign-bit-requires : tie.Need-flip-sign-bit-requires
+flip-sign-bit-requires c κs = search needs
 
 put-word-requires-2 : tie.Need-put-word-requires-2
 put-word-requires-2 c κs =
@@ -51,7 +51,7 @@ same-length c =
 
 returns : tie.Need-returns
 returns c =
-    row-put _ _ _ (c .before .before .before .before .before .before .before .before .before .before .before .of .ensures) (c .before .before .before .turn .ensures) (c .before .before .before .before .before .before .before .put-word .ensures) (c .before .before .put-word2 .ensures)
+    row-put _ _ _ (c .before .before .before .before .before .before .before .before .before .before .before .of .ensures) (c .before .before .before .flip-sign-bit .ensures) (c .before .before .before .before .before .before .before .put-word .ensures) (c .before .before .put-word2 .ensures)
 
 pub put-row-spec : {M : Type 1} → statement M
 put-row-spec =
@@ -66,7 +66,7 @@ put-row-spec =
     add-put-word
     put-word-requires
     add-put-word-2
-    turn-requires
+    flip-sign-bit-requires
     put-word-requires-2
     same-length
     returns)

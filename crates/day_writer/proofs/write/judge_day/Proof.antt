@@ -1,8 +1,7 @@
 -- Each return is one law: the tests before it held, and its own did not.
 use mathlib.Core.Path.{sym, _∙_}
 use borrow.Author.Tests.{not-true, not-false}
-use Rattle.day_file.specs.Day.{parts, day}
-use Rattle.day_writer.proofs.WriteLaws.{day-count, day-lengths, day-some, day-room, day-lists}
+use Rattle.day_writer.proofs.WriteLaws.{day-count, day-lengths, day-room, day-lists}
 use borrow.Author.Needs.{needs}
 use Rattle.day_writer.proofs.write.judge_day.Statement.{statement}
 use Rattle.day_writer.proofs.write.judge_day.Tie as tie
@@ -27,9 +26,7 @@ returns-3 c =
     day-room _ _ (c .before .before .before .before .in-range .ensures) (not-false _ (c .before .before .before .if1 .left)) (c .before .before .lengths-keep .ensures) (not-false _ (c .before .if2 .left)) (c .if3 .taken)
 
 judge-lists-requires : tie.Need-judge-lists-requires
-judge-lists-requires c κs =
-    let s = c .before .before .before .before .before .before .before .before .before .before .before in
-    day-some (day (s .args .counts) (parts (s .args .mins .now) (s .args .maxs .now) (s .args .optional .now) (s .args .levels .now) (s .args .preferences .now) (s .args .rows .now))) (s .args .room) (c .before .before .before .before .in-range .ensures) (not-false _ (c .before .before .before .if1 .left)) (c .before .before .lengths-keep .ensures) (not-false _ (c .before .if2 .left))
+judge-lists-requires c κs = search needs
 
 returns-4 : tie.Need-returns-4
 returns-4 c =

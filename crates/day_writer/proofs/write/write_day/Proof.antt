@@ -1,4 +1,6 @@
 -- The day is judged; a good one's bytes are put.
+use mathlib.Core.Path.{ap}
+use Rattle.constraint.specs.Check.{checkedTells}
 use Rattle.day_file.specs.Day.{parts, day}
 use Rattle.day_writer.proofs.WriteLaws.{write-refused, write-asks, write-good, rows-good}
 use borrow.Author.Needs.{needs}
@@ -13,7 +15,7 @@ enum-known-judged c = search needs
 
 returns : tie.Need-returns
 returns c =
-    write-refused _ _ (c .before .before .before .judge-day .ensures) (c .before .judged .given .1)
+    write-refused _ _ (c .before .before .before .judge-day .ensures) (ap checkedTells (c .before .judged .given .1))
 
 enum-told : tie.Need-enum-told
 enum-told c = search needs
@@ -22,7 +24,7 @@ put-day-requires : tie.Need-put-day-requires
 put-day-requires c κs =
     let s = c .before .before .before .before .before .before .before .before .before .before .before in
     let d = (day (s .args .counts) (parts (s .args .mins .now) (s .args .maxs .now) (s .args .optional .now) (s .args .levels .now) (s .args .preferences .now) (s .args .rows .now))) in
-    let g = write-asks d (s .args .pool .now) (c .before .before .before .judge-day .ensures) (c .before .enum-told .given .1) in
+    let g = write-asks d (s .args .pool .now) (c .before .before .before .judge-day .ensures) (ap checkedTells (c .before .enum-told .given .1)) in
     (g .counts-good, (g .lengths-good, (rows-good d (g .lists-are-good), g .room-good)))
 
 same-length : tie.Need-same-length
@@ -30,7 +32,7 @@ same-length c = search needs
 
 returns-2 : tie.Need-returns-2
 returns-2 c =
-    write-good _ _ (c .before .before .before .before .before .before .judge-day .ensures) (c .before .before .before .before .enum-told .given .1) (c .before .before .put-day .ensures)
+    write-good _ _ (c .before .before .before .before .before .before .judge-day .ensures) (ap checkedTells (c .before .before .before .before .enum-told .given .1)) (c .before .before .put-day .ensures)
 
 pub write-day-spec : {M : Type 1} → statement M
 write-day-spec =

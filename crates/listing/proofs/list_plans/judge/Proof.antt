@@ -1,5 +1,6 @@
 -- Each refusal in its turn.
 use mathlib.Core.Path.{sym, _∙_}
+use Rattle.constraint.proofs.Outcomes.{told-by}
 use borrow.Author.Tests.{not-true, not-false}
 use Rattle.listing.proofs.JudgeLaws.{judge-count, judge-length, judge-row, judge-flag, judge-good}
 use borrow.Author.Needs.{needs}
@@ -28,7 +29,7 @@ enum-known-checked c = search needs
 
 returns-3 : tie.Need-returns-3
 returns-3 c =
-    judge-row _ _ _ (sym (c .before .before .before .before .before .before .before .counts-in-range .ensures) ∙ not-false _ (c .before .before .before .before .before .before .if1 .left)) (sym (c .before .before .before .before .before .lengths-fit .ensures) ∙ not-false _ (c .before .before .before .before .if2 .left)) (sym (c .before .before .before .check-each-row .ensures) ∙ c .before .checked .given .1)
+    judge-row _ _ _ (sym (c .before .before .before .before .before .before .before .counts-in-range .ensures) ∙ not-false _ (c .before .before .before .before .before .before .if1 .left)) (sym (c .before .before .before .before .before .lengths-fit .ensures) ∙ not-false _ (c .before .before .before .before .if2 .left)) (told-by (c .before .before .before .check-each-row .ensures) (c .before .checked .given .1))
 
 enum-told : tie.Need-enum-told
 enum-told c = search needs
@@ -38,11 +39,11 @@ flags-fit-requires c κs = search needs
 
 returns-4 : tie.Need-returns-4
 returns-4 c =
-    judge-flag _ _ _ (sym (c .before .before .before .before .before .before .before .before .counts-in-range .ensures) ∙ not-false _ (c .before .before .before .before .before .before .before .if1 .left)) (sym (c .before .before .before .before .before .before .lengths-fit .ensures) ∙ not-false _ (c .before .before .before .before .before .if2 .left)) (sym (c .before .before .before .before .check-each-row .ensures) ∙ c .before .before .enum-told .given .1) (sym (c .before .flags-fit .ensures) ∙ not-true _ (c .if3 .taken))
+    judge-flag _ _ _ (sym (c .before .before .before .before .before .before .before .before .counts-in-range .ensures) ∙ not-false _ (c .before .before .before .before .before .before .before .if1 .left)) (sym (c .before .before .before .before .before .before .lengths-fit .ensures) ∙ not-false _ (c .before .before .before .before .before .if2 .left)) (told-by (c .before .before .before .before .check-each-row .ensures) (c .before .before .enum-told .given .1)) (sym (c .before .flags-fit .ensures) ∙ not-true _ (c .if3 .taken))
 
 returns-5 : tie.Need-returns-5
 returns-5 c =
-    judge-good _ _ _ (sym (c .before .before .before .before .before .before .before .before .counts-in-range .ensures) ∙ not-false _ (c .before .before .before .before .before .before .before .if1 .left)) (sym (c .before .before .before .before .before .before .lengths-fit .ensures) ∙ not-false _ (c .before .before .before .before .before .if2 .left)) (sym (c .before .before .before .before .check-each-row .ensures) ∙ c .before .before .enum-told .given .1) (sym (c .before .flags-fit .ensures) ∙ not-false _ (c .if3 .left))
+    judge-good _ _ _ (sym (c .before .before .before .before .before .before .before .before .counts-in-range .ensures) ∙ not-false _ (c .before .before .before .before .before .before .before .if1 .left)) (sym (c .before .before .before .before .before .before .lengths-fit .ensures) ∙ not-false _ (c .before .before .before .before .before .if2 .left)) (told-by (c .before .before .before .before .check-each-row .ensures) (c .before .before .enum-told .given .1)) (sym (c .before .flags-fit .ensures) ∙ not-false _ (c .if3 .left))
 
 pub judge-spec : {M : Type 1} → statement M
 judge-spec =

@@ -1,6 +1,6 @@
 -- The first run settles the turns, and its nodes bound the total.
 use borrow.Author.Tests.{not-true, not-false}
-use Rattle.listing.proofs.CallLaws.{start-walks, turns-told, left-within, total-fits, plans-told}
+use Rattle.listing.proofs.CallLaws.{start-walks, turns-told, total-fits, plans-told}
 use borrow.Author.Needs.{needs}
 use Rattle.listing.proofs.list_plans.list_day.Statement.{statement}
 use Rattle.listing.proofs.list_plans.list_day.Tie as tie
@@ -16,14 +16,13 @@ returns : tie.Need-returns
 returns c =
     turns-told _ _ _ (c .before .before .before .before .before .before .before .before .before .before .before .before .pre) (c .before .before .before .before .before .before .no-sums .ensures) (c .before .count-choice .ensures) _ (not-true _ (c .if1 .taken))
 
-sub-nodes : tie.Need-sub-nodes
-sub-nodes c =
-    left-within _ _ _ (c .before .before .before .before .before .before .before .before .before .before .before .before .pre) (c .before .before .before .before .before .before .no-sums .ensures) (c .before .count-choice .ensures) (not-false _ (c .if1 .left))
+spent-of-requires : tie.Need-spent-of-requires
+spent-of-requires c κs = search needs
 
 list-all-requires : tie.Need-list-all-requires
 list-all-requires c κs =
-    let s = c .before .before .before .before .before .before .before .before .before .before .before .before .before in
-    (s .pre, total-fits _ _ _ (s .pre) (c .before .before .before .before .before .before .before .no-sums .ensures) (c .before .before .count-choice .ensures) (not-false _ (c .before .if1 .left)) (s .fits .budget .fits))
+    let s = c .before .before .before .before .before .before .before .before .before .before .before .before .before .before in
+    (s .pre, total-fits _ _ _ (s .pre) (c .before .before .before .before .before .before .before .before .no-sums .ensures) (c .before .before .before .count-choice .ensures) (not-false _ (c .before .before .if1 .left)) (s .fits .budget .fits))
 
 written-of-requires : tie.Need-written-of-requires
 written-of-requires c κs = search needs
@@ -33,7 +32,7 @@ same-length c = search needs
 
 returns-2 : tie.Need-returns-2
 returns-2 c =
-    plans-told _ _ _ (c .before .before .before .before .before .before .before .before .before .before .before .before .before .before .before .before .before .pre) (c .before .before .before .before .before .before .before .before .before .before .before .no-sums .ensures) (c .before .before .before .before .before .before .count-choice .ensures) (not-false _ (c .before .before .before .before .before .if1 .left)) _ (c .before .before .before .list-all .ensures .0) (c .written-of .ensures) (c .before .before .before .list-all .ensures .1)
+    plans-told _ _ _ (c .before .before .before .before .before .before .before .before .before .before .before .before .before .before .before .before .before .before .pre) (c .before .before .before .before .before .before .before .before .before .before .before .before .no-sums .ensures) (c .before .before .before .before .before .before .before .count-choice .ensures) (not-false _ (c .before .before .before .before .before .before .if1 .left)) _ (c .before .before .before .before .before .spent-of .ensures) (c .before .before .before .list-all .ensures .0) (c .written-of .ensures) (c .before .before .before .list-all .ensures .1)
 
 pub list-day-spec : {M : Type 1} → statement M
 list-day-spec =
@@ -42,7 +41,7 @@ list-day-spec =
     no-sums-requires
     count-choice-requires
     returns
-    sub-nodes
+    spent-of-requires
     list-all-requires
     written-of-requires
     same-length

@@ -1,5 +1,6 @@
 -- Refused, or listed.
 use mathlib.Core.Path.{sym, _∙_}
+use Rattle.constraint.proofs.Outcomes.{told-by}
 use Rattle.listing.proofs.JudgeLaws.{judged}
 use Rattle.listing.proofs.CallLaws.{refused-told, good-told}
 use borrow.Author.Needs.{needs}
@@ -14,21 +15,21 @@ enum-known-judged c = search needs
 
 returns : tie.Need-returns
 returns c =
-    refused-told _ _ _ _ _ (sym (c .before .before .before .judge .ensures) ∙ c .before .judged .given .1)
+    refused-told _ _ _ _ _ (told-by (c .before .before .before .judge .ensures) (c .before .judged .given .1))
 
 enum-told : tie.Need-enum-told
 enum-told c = search needs
 
 list-day-requires : tie.Need-list-day-requires
 list-day-requires c κs =
-    judged _ _ _ (sym (c .before .enum-told .given .1) ∙ c .before .before .before .judge .ensures)
+    judged _ _ _ (told-by (c .before .before .before .judge .ensures) (c .before .enum-told .given .1))
 
 same-length : tie.Need-same-length
 same-length c = search needs
 
 returns-2 : tie.Need-returns-2
 returns-2 c =
-    c .before .before .list-day .ensures ∙ good-told _ _ _ _ _ (sym (c .before .before .before .before .before .before .judge .ensures) ∙ c .before .before .before .before .enum-told .given .1)
+    c .before .before .list-day .ensures ∙ good-told _ _ _ _ _ (sym (told-by (c .before .before .before .before .before .before .judge .ensures) (c .before .before .before .before .enum-told .given .1)))
 
 pub list-plans-spec : {M : Type 1} → statement M
 list-plans-spec =

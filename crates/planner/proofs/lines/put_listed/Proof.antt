@@ -2,7 +2,7 @@
 use mathlib.Core.Path.{refl}
 use borrow.Author.Needs.{needs}
 use Rattle.planner.specs.Text.{ascii, numberLine}
-use Rattle.planner.specs.Pages.{plansIn}
+use Rattle.planner.specs.steps.Pages.{plansIn}
 use Rattle.planner.proofs.PutLaws.{fits-first, fits-second, fits-next, put-both}
 use Rattle.planner.proofs.LineLaws.{listed-is}
 use Rattle.planner.proofs.lines.put_listed.Statement.{statement}

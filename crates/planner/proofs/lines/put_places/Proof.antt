@@ -5,7 +5,7 @@ use borrow.Author.Needs.{needs}
 use lib.ListN.{length}
 use Rattle.lists.proofs.Stores.{Each, each-start, each-part, each-end}
 use Rattle.planner.specs.Answer.{placeText}
-use Rattle.planner.specs.Put.{Fits}
+use Rattle.planner.specs.steps.Put.{Fits}
 use Rattle.planner.proofs.PutLaws.{each-fits}
 use Rattle.planner.proofs.lines.put_places.Statement.{statement}
 use Rattle.planner.proofs.lines.put_places.Tie as tie

@@ -16,7 +16,7 @@ use Rattle.constraints.proofs.reduce.Reads as reduce-reads
 use Rattle.planner.proofs.lines.put_clash.Reads as put-clash-reads
 use Rattle.planner.proofs.lines.put_refused.Reads as put-refused-reads
 use Rattle.planner.proofs.plans.put_plans_of.Reads as put-plans-of-reads
-use Rattle.planner.proofs.pools.reduced_rows.Reads as reduced-rows-reads
+use Rattle.planner.proofs.blank.reduced_rows.Reads as reduced-rows-reads
 use Rattle.planner.proofs.search_list.search_count.Reads as search-count-reads
 
 -- src/plans.rt:105:20

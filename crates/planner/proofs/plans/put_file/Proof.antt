@@ -13,10 +13,10 @@ use Rattle.day_file.proofs.counts.DayCounts.for_rows.Reads as for-rows-reads
 use Rattle.day_file.proofs.read.read_day.Reads as read-day-reads
 use Rattle.planner.proofs.lines.put_refused.Reads as put-refused-reads
 use Rattle.planner.proofs.plans.put_day.Reads as put-day-reads
-use Rattle.planner.proofs.pools.flags.Reads as flags-reads
-use Rattle.planner.proofs.pools.given_rows.Reads as given-rows-reads
-use Rattle.planner.proofs.pools.preferences.Reads as preferences-reads
-use Rattle.planner.proofs.pools.words.Reads as words-reads
+use Rattle.planner.proofs.blank.flags.Reads as flags-reads
+use Rattle.planner.proofs.blank.given_rows.Reads as given-rows-reads
+use Rattle.planner.proofs.blank.preferences.Reads as preferences-reads
+use Rattle.planner.proofs.blank.words.Reads as words-reads
 
 -- src/plans.rt:141:9
 put-refused-requires : tie.Need-put-refused-requires

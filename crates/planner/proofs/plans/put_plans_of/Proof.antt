@@ -2,7 +2,7 @@ use mathlib.Core.Path.{_≡_, refl, sym, _∙_, ap}
 use Prim.Native.Nat.{ℕ, _+_, _*_, _≤_, _<_}
 use native.Mathlib.Omega.{arith}
 use Rattle.planner.specs.Answer.{answerText}
-use Rattle.planner.specs.Put.{Put}
+use Rattle.planner.specs.steps.Put.{Put}
 use Rattle.planner.proofs.ListedLaws.{page-size, page-fits, lent-length, answer-room, page-listed, page-whole, page-holds, page-numbered, page-turns, page-refused}
 use borrow.Author.Needs.{needs}
 use Rattle.planner.proofs.plans.put_plans_of.Statement.{statement}
@@ -13,7 +13,7 @@ use Rattle.listing.proofs.list_plans.list_plans.Reads as list-plans-reads
 use Rattle.planner.proofs.lines.put_listed.Reads as put-listed-reads
 use Rattle.planner.proofs.lines.put_refused.Reads as put-refused-reads
 use Rattle.planner.proofs.lines.put_turns.Reads as put-turns-reads
-use Rattle.planner.proofs.pools.page.Reads as page-reads
+use Rattle.planner.proofs.blank.page.Reads as page-reads
 
 -- src/plans.rt:58:22
 page-requires : tie.Need-page-requires

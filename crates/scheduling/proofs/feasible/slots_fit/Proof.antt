@@ -4,7 +4,7 @@ use mathlib.Core.Bool.{true, false}
 use Prim.Native.Nat.{_≤_, _-_}
 use native.Mathlib.Omega.{arith}
 use Rattle.lists.specs.Below.{allBelow}
-use Rattle.scheduling.specs.Sums.{listedFits}
+use Rattle.scheduling.specs.steps.Sums.{listedFits}
 use Rattle.scheduling.proofs.SumLaws.{slots-over, slots-under, slots-more}
 use borrow.Author.Needs.{needs}
 use Rattle.scheduling.proofs.feasible.slots_fit.Statement.{statement}

@@ -4,20 +4,20 @@ use Prim.Native.Nat.{_≤_, _-_}
 use lib.ListN.{length}
 use borrow.Author.Tests.{not-true, not-false}
 use Rattle.scheduling.specs.Check.{cellFits}
-use Rattle.scheduling.proofs.CheckLaws.{Left, left-start, left-next, left-fails, left-none}
+use Rattle.scheduling.proofs.CheckLaws.{RestDecides, rest-start, rest-next, rest-fails, rest-none}
 use borrow.Author.Needs.{needs}
 use Rattle.scheduling.proofs.plan_check.cells_fit.Statement.{statement}
 use Rattle.scheduling.proofs.plan_check.cells_fit.Tie as tie
 
 abbrev Inv-loop : tie.InvT-loop
-Inv-loop slots plan i₀ i = (i ≤ length plan) × Left (cellFits slots) plan i
+Inv-loop slots plan i₀ i = (i ≤ length plan) × RestDecides (cellFits slots) plan i
 
 abbrev μ-loop : tie.MeasureT-loop
 μ-loop slots plan i₀ i = length plan - i
 
 loop-holds : tie.Need-loop-holds Inv-loop μ-loop
 loop-holds c =
-    (search needs, left-start _ _)
+    (search needs, rest-start _ _)
 
 shared-slice-read-cell-fits : tie.Need-shared-slice-read-cell-fits Inv-loop μ-loop
 shared-slice-read-cell-fits c = search needs
@@ -27,7 +27,7 @@ cell-fits-requires c κs = search needs
 
 returns : tie.Need-returns Inv-loop μ-loop
 returns c =
-    sym (left-fails _ _ _ (c .before .before .before .loop-test .taken) (c .before .before .before .before .loop .inv .1) (sym (c .before .cell-fits .ensures) ∙ not-true _ (c .if1 .taken)))
+    sym (rest-fails _ _ _ (c .before .before .before .loop-test .taken) (c .before .before .before .before .loop .inv .1) (sym (c .before .cell-fits .ensures) ∙ not-true _ (c .if1 .taken)))
 
 add-i : tie.Need-add-i Inv-loop μ-loop
 add-i c = search needs
@@ -37,11 +37,11 @@ loop-less c = search needs
 
 loop-again : tie.Need-loop-again Inv-loop μ-loop
 loop-again c =
-    (search needs, left-next _ _ _ (c .before .before .before .loop-test .taken) (c .before .before .before .before .loop .inv .1) (sym (c .before .cell-fits .ensures) ∙ not-false _ (c .if1 .left)))
+    (search needs, rest-next _ _ _ (c .before .before .before .loop-test .taken) (c .before .before .before .before .loop .inv .1) (sym (c .before .cell-fits .ensures) ∙ not-false _ (c .if1 .left)))
 
 returns-2 : tie.Need-returns-2 Inv-loop μ-loop
 returns-2 c =
-    sym (left-none _ _ _ (c .loop-test .left) (c .before .loop .inv .1))
+    sym (rest-none _ _ _ (c .loop-test .left) (c .before .loop .inv .1))
 
 pub cells-fit-spec : {M : Type 1} → statement M
 cells-fit-spec =

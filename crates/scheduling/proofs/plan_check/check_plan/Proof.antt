@@ -1,7 +1,8 @@
 -- What is refused, and else what the worker says.
 use mathlib.Core.Path.{_≡_, sym, _∙_}
 use mathlib.Core.Bool.{true, false}
-use Rattle.scheduling.proofs.CheckLaws.{judge-before, judge-after, cells-spared, check-refused, check-answers}
+use Rattle.scheduling.proofs.CheckLaws.{cells-spared, check-before, check-cells, check-answers}
+use Rattle.constraint.proofs.Outcomes.{told-by}
 use borrow.Author.Needs.{needs}
 use Rattle.scheduling.proofs.plan_check.check_plan.Statement.{statement}
 use Rattle.scheduling.proofs.plan_check.check_plan.Tie as tie
@@ -14,7 +15,7 @@ enum-known-judged c = search needs
 
 returns : tie.Need-returns
 returns c =
-    check-refused _ _ (judge-before _ _ (sym (c .before .before .before .judge .ensures) ∙ c .before .judged .given .1))
+    check-before _ _ (told-by (c .before .before .before .judge .ensures) (c .before .judged .given .1))
 
 enum-told : tie.Need-enum-told
 enum-told c = search needs
@@ -24,25 +25,25 @@ is-feasible-requires c κs = search needs
 
 check-cells-requires : tie.Need-check-cells-requires
 check-cells-requires c κs =
-    λ t. cells-spared _ _ (sym (c .before .before .before .judge .ensures) ∙ c .before .enum-told .given .1) (sym (c .is-feasible .ensures) ∙ t)
+    λ t. cells-spared _ _ (told-by (c .before .before .before .judge .ensures) (c .before .enum-told .given .1)) (sym (c .is-feasible .ensures) ∙ t)
 
 enum-known-cells : tie.Need-enum-known-cells
 enum-known-cells c = search needs
 
 returns-2 : tie.Need-returns-2
 returns-2 c =
-    check-refused _ _ (judge-after _ _ (sym (c .before .before .before .before .before .before .before .judge .ensures) ∙ c .before .before .before .before .before .enum-told .given .1) (sym (c .before .before .before .check-cells .ensures) ∙ c .before .cells .given .1))
+    check-cells _ _ (told-by (c .before .before .before .before .before .before .before .judge .ensures) (c .before .before .before .before .before .enum-told .given .1)) (told-by (c .before .before .before .check-cells .ensures) (c .before .cells .given .1))
 
 enum-told-2 : tie.Need-enum-told-2
 enum-told-2 c = search needs
 
 returns-3 : tie.Need-returns-3
 returns-3 c =
-    check-answers _ _ true (judge-after _ _ (sym (c .before .before .before .before .before .before .before .judge .ensures) ∙ c .before .before .before .before .before .enum-told .given .1) (sym (c .before .before .before .check-cells .ensures) ∙ c .before .enum-told2 .given .1)) (sym (c .before .before .before .before .is-feasible .ensures) ∙ c .if1 .taken)
+    check-answers _ _ true (told-by (c .before .before .before .before .before .before .before .judge .ensures) (c .before .before .before .before .before .enum-told .given .1)) (told-by (c .before .before .before .check-cells .ensures) (c .before .enum-told2 .given .1)) (sym (c .before .before .before .before .is-feasible .ensures) ∙ c .if1 .taken)
 
 returns-4 : tie.Need-returns-4
 returns-4 c =
-    check-answers _ _ false (judge-after _ _ (sym (c .before .before .before .before .before .before .before .judge .ensures) ∙ c .before .before .before .before .before .enum-told .given .1) (sym (c .before .before .before .check-cells .ensures) ∙ c .before .enum-told2 .given .1)) (sym (c .before .before .before .before .is-feasible .ensures) ∙ c .if1 .left)
+    check-answers _ _ false (told-by (c .before .before .before .before .before .before .before .judge .ensures) (c .before .before .before .before .before .enum-told .given .1)) (told-by (c .before .before .before .check-cells .ensures) (c .before .enum-told2 .given .1)) (sym (c .before .before .before .before .is-feasible .ensures) ∙ c .if1 .left)
 
 pub check-plan-spec : {M : Type 1} → statement M
 check-plan-spec =

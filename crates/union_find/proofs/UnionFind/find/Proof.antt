@@ -2,7 +2,7 @@
 use mathlib.Core.Path.{_≡_, sym, ap, _∙_}
 use borrow.Author.Tests.{not-true, not-false}
 use lib.ListN.{length}
-use Rattle.union_find.specs.Answers.{done}
+use Rattle.constraint.specs.Told.{done}
 use Rattle.union_find.proofs.Root.{find-untaken, find-out, find-root, root-is, taken-ends}
 use borrow.Author.Needs.{needs}
 use Rattle.union_find.proofs.UnionFind.find.Statement.{statement}

@@ -1,0 +1,26 @@
+-- No level, or the last one.
+use borrow.Author.Needs.{needs}
+use Rattle.day_lists.specs.Levels.{lastLevel}
+use Rattle.day_lists.proofs.LevelLaws.{no-last}
+use Rattle.day_lists.proofs.last_level.Statement.{statement}
+use Rattle.day_lists.proofs.last_level.Tie as tie
+
+returns : tie.Need-returns
+returns c = no-last _ (c .if1 .taken)
+
+sub-result : tie.Need-sub-result
+sub-result c = search needs
+
+mul-result : tie.Need-mul-result
+mul-result c = search needs
+
+shared-slice-read-result : tie.Need-shared-slice-read-result
+shared-slice-read-result c = search needs
+
+returns-2 : tie.Need-returns-2
+unfolding lastLevel
+returns-2 c = search needs
+
+pub last-level-spec : {M : Type 1} → statement M
+last-level-spec =
+    tie.close (tie.spec returns sub-result mul-result shared-slice-read-result returns-2)

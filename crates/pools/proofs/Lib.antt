@@ -1,0 +1,3 @@
+-- The law of clearing, and that no two outcomes fit.
+pub mod Clearing
+pub mod Outcomes
