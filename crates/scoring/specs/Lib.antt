@@ -1,0 +1,5 @@
+pub mod Sheet
+pub mod Roster
+pub mod Passes
+pub mod Check
+pub mod steps

@@ -1,0 +1,130 @@
+// The refusals of the roster check, lowest number first.
+use super::highest::larger;
+use super::roster_check::RosterCounts;
+use constraint::check::Checked;
+use constraint::check::Counts;
+use constraint::check::Takes;
+use constraint::check::counts_in_range;
+use constraint::check::row_keeps;
+use constraint::refusal::Refusal;
+use scheduling::plan::OMITTED;
+use scheduling::plan::slot_of;
+ghost use mathlib.Core.Path.{_≡_};
+ghost use Prim.Native.Nat.{_+_, _<_, _^_};
+ghost use lib.ListN.{length, getD};
+ghost use Rattle.lists.specs.All.{allOf, allAtMost};
+ghost use Rattle.scheduling.specs.Check.{cellFits};
+ghost use Rattle.scoring.specs.Sheet.{sheetOf, rowCounts};
+ghost use Rattle.scoring.specs.Roster.{highestBelow};
+ghost use Rattle.scoring.specs.Check.{countsKeep, listJudged, namesScheduled};
+ghost use Rattle.constraint.specs.Check.{checkedTells};
+
+impl RosterCounts {
+    // The counts that the row check takes.
+    pub(crate) fn of_rows(self) -> Counts
+        ensures { λ r. ⌜ r ≡ rowCounts self ⌝ }
+    {
+        Counts {
+            choices: self.choices,
+            slots: self.slots,
+            choosers: self.choosers,
+            rows: self.rows,
+        }
+    }
+
+    // Whether each count is in its range; a day has at least one level.
+    pub(crate) fn in_range(self) -> bool
+        ensures { λ r. ⌜ r ≡ countsKeep self ⌝ }
+    {
+        if !counts_in_range(self.of_rows(), Takes::Scheduling) {
+            return false;
+        }
+        if self.levels < 1 {
+            return false;
+        }
+        if 64 < self.levels {
+            return false;
+        }
+        self.assignment_rows <= 1024
+    }
+}
+
+// The highest of all preferences: a loop with one way through, which is compiled to several entries a step.
+fn highest_given(preferences: &[u16]) -> u16
+    ensures { λ r. ⌜ r ≡ highestBelow (length (now (preferences .entry))) (λ i. getD (now (preferences .entry)) i 0) ⌝ }
+{
+    let mut highest = 0;
+    let mut i = 0;
+    while i < preferences.len() {
+        highest = larger(highest, preferences[i]);
+        i += 1;
+    }
+    highest
+}
+
+// Whether every preference is at most the last level.
+pub(crate) fn preferences_keep(last: u16, preferences: &[u16]) -> bool
+    ensures { λ r. ⌜ r ≡ allAtMost last (now (preferences .entry)) ⌝ }
+{
+    highest_given(preferences) <= last
+}
+
+// The first row of a list that breaks the table, counted from the rows before the list on.
+pub(crate) fn judge_list(counts: Counts, takes: Takes, before: usize, rows: &[u64]) -> Checked
+    requires { ⌜ before + length (now rows) < 2 ^ 63 ⌝ }
+    ensures { λ r. ⌜ checkedTells r ≡ listJudged counts takes before (now (rows .entry)) ⌝ }
+{
+    let mut i = 0;
+    while i < rows.len() {
+        if !row_keeps(counts, takes, rows[i]) {
+            return Checked::Refused(Refusal::Row(before + i));
+        }
+        i += 1;
+    }
+    Checked::Good
+}
+
+// Whether a cell is a slot or 255.
+fn cell_fits(slots: usize, cell: u8) -> bool
+    ensures { λ r. ⌜ r ≡ cellFits slots cell ⌝ }
+{
+    if cell == OMITTED {
+        return true;
+    }
+    (cell as usize) < slots
+}
+
+// Whether every plan cell is a slot or 255.
+pub(crate) fn places_fit(slots: usize, plan: &[u8]) -> bool
+    ensures { λ r. ⌜ r ≡ allOf (cellFits slots) (now (plan .entry)) ⌝ }
+{
+    let mut i = 0;
+    while i < plan.len() {
+        if !cell_fits(slots, plan[i]) {
+            return false;
+        }
+        i += 1;
+    }
+    true
+}
+
+// Whether a cell names a scheduled choice.
+fn names_scheduled(plan: &[u8], cell: u8) -> bool
+    ensures { λ r. ⌜ r ≡ namesScheduled (now (plan .entry)) cell ⌝ }
+{
+    slot_of(plan, cell as u16) != OMITTED
+}
+
+// Whether every roster cell names a scheduled choice.
+pub(crate) fn cells_named(plan: &[u8], roster: &[u8]) -> bool
+    ensures { λ r. ⌜ r ≡ allOf (namesScheduled (now (plan .entry))) (now (roster .entry)) ⌝ }
+{
+    let mut i = 0;
+    while i < roster.len() {
+        if !names_scheduled(plan, roster[i]) {
+            return false;
+        }
+        i += 1;
+    }
+    true
+}
