@@ -8,18 +8,21 @@ import sys
 from functools import partial
 from pathlib import Path
 
-ORACLE = Path(__file__).resolve().parent.parent / "oracle"
+ROOT = Path(__file__).resolve().parent.parent
+ORACLE = ROOT / "oracle"
+EXAMPLES = ROOT / "examples"
 
 sys.path.insert(0, str(ORACLE))
 sys.dont_write_bytecode = True
 import scope  # noqa: E402
-from cases import listing, plan_check, reduction  # noqa: E402
+from cases import critical_sets, listing, plan_check, reduction, roster  # noqa: E402
 from cases.common import Draws, parts, random_row, record, row, u16s  # noqa: E402
 
 SEED = 2_001
 PLANS = 200
 LONG_PLANS = 20
 REDUCTIONS = 20
+ROSTERS = 10
 
 
 # Plans: 10 to 20 stations, 3 to 6 blocks, 12 to 40 trainees, 20 rows.
@@ -120,7 +123,11 @@ def reductions(make):
     return bodies
 
 
-# Day files: every count at its limit, 26,827 bytes.
+# Day files: every count at its limit, 26,827 bytes; and the examples' first, 27 bytes, and longest.
+
+
+def example(name):
+    return (EXAMPLES / name).read_bytes()
 
 
 def full_file():
@@ -156,6 +163,59 @@ def many_full_starts():
     return listing.body(3, 24, rows, mins, [24] * 10, [0, 1, 0, 0, 1, 0, 0, 0, 0, 1])
 
 
+# Critical sets: 200 choosers, 64 choices, 64 levels; 1,020 sets are kept, and most choosers' sets are covered.
+
+
+def many_sets(analysis):
+    rows = critical_sets.chains(1_020)
+    preferences = [rows[chooser % len(rows)] for chooser in range(200)]
+    return critical_sets.body(2, [0] * 64, list(range(64)), preferences, analysis, 31)
+
+
+# Rosters that pass, of 20 stations, 6 blocks and 40 trainees and at the limits, with no rows, 20 rows of both lists, or 20 of one kind.
+
+
+def wide_roster(draws, choices, slots, choosers):
+    """A sheet whose plan omits nothing and has a choice in each slot, and whose roster passes."""
+    plan = list(range(slots)) + [draws.below(slots) for _ in range(choices - slots)]
+    cells = roster.random_roster(draws, plan, slots, choosers)
+    levels = list(range(10))
+    preferences = [[draws.below(10) for _ in range(choices)] for _ in range(choosers)]
+    sheet = roster.Sheet(slots, plan, cells, levels, preferences)
+    roster.fit_seats(draws, sheet)
+    return sheet
+
+
+def passing_rosters(size, kinds):
+    draws = Draws(SEED + 20)
+    bodies = []
+    for _ in range(ROSTERS):
+        sheet = wide_roster(draws, *size)
+        # A chooser beside whom another has the same choices in another order, so that kind 13 has pairs to bind.
+        sheet.roster[1] = draws.shuffled(sheet.roster[0])
+        roster.fit_seats(draws, sheet)
+        while kinds and len(sheet.scheduling) + len(sheet.assignment) < 20:
+            kind = draws.pick(kinds)
+            if kind < 10:
+                fitting = plan_check.fitting_row(draws, sheet.plan, sheet.slots)
+                sheet.scheduling += [one for one in fitting if parts(one)[0] == kind]
+                continue
+            one = {
+                10: lambda: row(10, *[draws.below(size[0])] * 2),
+                11: lambda: (lambda h: row(11, h, draws.pick(sheet.roster[h])))(draws.below(size[2])),
+                12: lambda: row(12, draws.below(size[2]), draws.below(size[0])),
+                13: lambda: row(13, 0, 1),
+            }[kind]()
+            if roster.keeps(sheet, one):
+                sheet.assignment.append(one)
+        bodies.append(sheet.body())
+    return bodies
+
+
+SMALL = (20, 6, 40)
+LARGE = (64, 24, 200)
+
+
 # Each set: the part that takes it, and what makes it.
 SETS = {
     "plans that pass": ("plan_check", lambda: feasible_plans(range(1, 7))),
@@ -166,8 +226,16 @@ SETS = {
     "rows, lists of choosers": ("reduction", lambda: reductions(chooser_lists)),
     "rows, groups and choosers": ("reduction", lambda: reductions(groups_and_choosers)),
     "a file of 26,827 bytes": ("day_file", lambda: [full_file()]),
+    "the sample of 27 bytes": ("day_file", lambda: [example("sample.day")]),
+    "a course day of 1,493 bytes": ("day_file", lambda: [example("course-day.day")]),
+    "1,020 critical sets": ("critical_sets", lambda: [many_sets(critical_sets.ON)]),
+    "1,020 critical sets, simplified": ("critical_sets", lambda: [many_sets(critical_sets.SIMPLIFIED)]),
     "a day with few full starts": ("listing", lambda: [few_full_starts()]),
     "a day with many full starts": ("listing", lambda: [many_full_starts()]),
+    **{f"rosters of {size}, {what}": ("roster", partial(passing_rosters, size, kinds))
+       for size in (SMALL, LARGE)
+       for what, kinds in [("no rows", []), ("rows of all kinds", [1, 2, 3, 4, 5, 6, 10, 11, 12, 13])]
+       + [(f"20 rows of kind {kind}", [kind]) for kind in (10, 11, 12, 13)]},
 }
 
 

@@ -37,15 +37,19 @@ mod day;
 mod rows;
 mod wire;
 
+#[cfg(worker_critical_sets)]
+mod critical_sets;
 #[cfg(thalluscrest_read_day)]
 mod day_file;
 #[cfg(thalluscrest_list_plans)]
 mod listing;
 mod measure;
-#[cfg(thalluscrest_is_feasible)]
+#[cfg(thalluscrest_check_plan)]
 mod plan_check;
 #[cfg(thalluscrest_reduce)]
 mod reduction;
+#[cfg(worker_check_roster)]
+mod roster;
 
 pub(crate) use assignment::Assignment;
 pub(crate) use choice_data::ChoiceData;
@@ -84,14 +88,18 @@ fn main() {
     let records = records(inputs);
     let rounds = rounds.parse().expect("the rounds are a number");
     match part.as_str() {
-        #[cfg(thalluscrest_is_feasible)]
+        #[cfg(thalluscrest_check_plan)]
         "plan_check" => plan_check::run(&records, rounds),
         #[cfg(thalluscrest_reduce)]
         "reduction" => reduction::run(&records, rounds),
         #[cfg(thalluscrest_read_day)]
         "day_file" => day_file::run(&records, rounds),
+        #[cfg(worker_critical_sets)]
+        "critical_sets" => critical_sets::run(&records, rounds),
         #[cfg(thalluscrest_list_plans)]
         "listing" => listing::run(&records, rounds),
+        #[cfg(worker_check_roster)]
+        "roster" => roster::run(&records, rounds),
         _ => panic!("no part {part} in this driver"),
     }
 }

@@ -7,7 +7,7 @@ use crate::wire::Input;
 use crate::{InputData, Scheduling, day, rows};
 
 unsafe extern "C" {
-    fn thalluscrest_is_feasible(
+    fn worker_is_feasible(
         choices: usize,
         slots: usize,
         choosers: usize,
@@ -101,7 +101,7 @@ fn rust_is_feasible(case: &Case) -> bool {
 fn rattle_is_feasible(case: &Case) -> bool {
     // Sound: each slice goes in as its pointer and its length, and the call has no `requires`.
     unsafe {
-        thalluscrest_is_feasible(
+        worker_is_feasible(
             case.choices,
             case.slots,
             case.choosers,
