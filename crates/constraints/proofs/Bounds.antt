@@ -11,7 +11,6 @@ use Rattle.lists.specs.Keep.{anyOf}
 use Rattle.lists.specs.steps.Cut.{cutAt}
 use Rattle.constraint.specs.Row.{rowOf, rowNumber, plainRow}
 use Rattle.constraint.specs.declared.row.Row.{Row}
-use Rattle.constraints.specs.Turn.{kindOf, turnedRow, turnedOne, turnedRows}
 use Rattle.constraints.specs.Pairs.{pairRow, pairsOf, mandatory, mandatoryPairs}
 use Rattle.constraints.specs.Copies.{copyTo, copiesIn, isCopied, copiesOf, copiesAll}
 use Rattle.constraints.proofs.Pairing.{mandatory-most}
@@ -30,17 +29,6 @@ cut-most f n k h flat g (end ∷ ends) start =
     let p : length (take (end - start) (drop start flat)) ≤ n = rw (length-take, length-drop) (omega arith) in
     rw (length-append (f (take (end - start) (drop start flat))) (flatMap f (cutAt end ends flat)), suc-mul (length ends) k)
     (omega (arith, h (take (end - start) (drop start flat)) p, cut-most f n k h flat g ends end))
-
-pub turned-most : (number : ℕ) → length (turnedOne number) ≤ 1
-unfolding turnedOne
-turned-most number = go (eqb (kindOf number) 9)
-  where
-    go : (b : Bool) → length (cond b [] (turnedRow number ∷ [])) ≤ 1
-    go true = omega arith
-    go false = omega arith
-
-pub turned-rows-most : (rows : List ℕ) → length (turnedRows rows) ≤ length rows
-turned-rows-most rows = omega (arith, flat-most turnedOne 1 turned-most rows)
 
 pub pairs-most : (list : List ℕ) (n : ℕ) → length list ≤ n → length (pairsOf list) ≤ length list * n
 unfolding pairsOf

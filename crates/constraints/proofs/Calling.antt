@@ -22,7 +22,7 @@ use Rattle.constraint.specs.declared.check.Checked.{Checked}
 use Rattle.constraint.specs.declared.check.Checked.the-variants as checked
 use Rattle.constraint.specs.declared.refusal.Refusal.{Refusal}
 use Rattle.constraint.proofs.CountLaws.{within}
-use Rattle.constraints.specs.Turn.{clashOf}
+use Rattle.new_rows.specs.Turn.{clashOf}
 use Rattle.constraints.specs.steps.Expand.{Filled, Given}
 use Rattle.constraints.specs.declared.Reduction.{Reduction}
 use Rattle.constraints.specs.Reduction.{expanded, reducedRows, reductionOf, reduceOf}

@@ -21,15 +21,15 @@ use Rattle.lists.proofs.Pad.{length-pad}
 use Rattle.constraint.specs.Told.{done, outcome}
 use Rattle.union_find.specs.State.{joinAll, rootOf}
 use Rattle.union_find.specs.Groups.{groupsWritten, GroupsOutcome}
-use Rattle.constraints.specs.steps.Free.{Wrote}
-use Rattle.constraints.specs.Turn.{turnedRows}
+use Rattle.new_rows.specs.Free.{Wrote}
+use Rattle.new_rows.specs.Turn.{turnedRows}
 use Rattle.constraints.specs.Groups.{sameChoosers, joins}
 use Rattle.constraints.specs.Pairs.{groupPairs, mandatoryPairs}
 use Rattle.constraints.specs.Copies.{copiesAll}
 use Rattle.constraints.specs.steps.Expand.{Filled, Small, Given}
 use Rattle.constraints.specs.Reduction.{addedTo, expanded}
 use Rattle.constraint.specs.declared.check.Counts.{Counts}
-use Rattle.constraints.proofs.Bounds.{turned-rows-most}
+use Rattle.new_rows.proofs.Turning.{turned-rows-most}
 
 -- a list read into another place by place
 pub widen-more : (members choices : List ℕ) (i v : ℕ) → i < length choices → i < length members → v ≡ getD members i 0 → take i choices ≡ take i members
@@ -119,7 +119,11 @@ module _ (choices : ℕ) (rows : List ℕ) (small : choices ≤ 64) where
     ends-within = rw (ends-are, members-length) (ends-fit (sameChoosers choices rows) 0 64 (omega (arith, groups-flat)))
 
 -- the turned rows read back
-module _ (rows numbers : List ℕ) (count : ℕ) (r : length rows ≤ 128) (w : Wrote (replicate 128 0) 0 (turnedRows rows) count numbers) where
+module _ (rows numbers : List ℕ) (count : ℕ) (r : length rows ≤ 128) (first : Wrote (replicate 128 0) 0 (turnedRows (take 128 rows)) count numbers) where
+  w : Wrote (replicate 128 0) 0 (turnedRows rows) count numbers
+  w =
+      subst (λ (given : List ℕ). Wrote (replicate 128 0) 0 (turnedRows given) count numbers) (take-all 128 rows r) first
+
   room : length {A = ℕ} (replicate 128 0) ≡ 128
   room = length-replicate {A = ℕ} 128 0
 

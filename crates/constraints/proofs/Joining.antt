@@ -21,9 +21,9 @@ use Rattle.union_find.specs.Answers.{groupedTells}
 use Rattle.union_find.specs.Groups.{groupsOf, groupsWritten, GroupsOutcome}
 use Rattle.union_find.proofs.Made.{never-refused}
 use Rattle.union_find.proofs.Grouping.{groups-wrote}
-use Rattle.constraints.specs.Turn.{kindOf, leftOf, rightOf}
+use Rattle.new_rows.specs.Turn.{kindOf, leftOf, rightOf}
 use Rattle.constraints.specs.Groups.{joinOne, joins, sameChoosers}
-use Rattle.constraints.proofs.Turning.{kind-is, kind-not}
+use Rattle.new_rows.proofs.Turning.{kind-is, kind-not}
 
 -- joins one part after another
 pub join-append : (choices : ℕ) (uf : UnionFind) (p q : List (ℕ × ℕ)) → joinFrom choices uf (p ++ q) ≡ joinFrom choices (joinFrom choices uf p) q

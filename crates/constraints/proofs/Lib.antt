@@ -1,4 +1,3 @@
-pub mod Turning
 pub mod Pairing
 pub mod Copying
 pub mod Joining

@@ -17,7 +17,7 @@ use Rattle.constraint.specs.declared.check.Takes.the-variants as takes
 use Rattle.constraint.specs.Told.{good}
 use Rattle.constraint.proofs.KeptLaws.{kept}
 use Rattle.constraint.proofs.KindLaws.{takes-scheduling, takes-assignment}
-use Rattle.constraints.specs.Turn.{kindOf}
+use Rattle.new_rows.specs.Turn.{kindOf}
 use Rattle.constraints.specs.Reduction.{reducedRows, searchList, rosterList}
 use Rattle.constraints.proofs.Result.{result-rises}
 use Rattle.constraints.proofs.TableKept.{Taken, result-taken}

@@ -12,13 +12,13 @@ use lib.Dec.{eqb}
 use lib.ListN.{length, getD, take, drop, set, length-drop, length-append, drop-of-length-le}
 use lib.Seq.{drop-cons, take-all, sets, length-sets, getD-set-same, getD-set-other}
 use Rattle.lists.proofs.Stores.{Stores, stores-part, take-sets, sets-append, each-at}
-use Rattle.constraints.specs.steps.Free.{Wrote}
+use Rattle.new_rows.specs.Free.{Wrote}
 use Rattle.constraint.specs.Row.{rowOf, rowNumber, plainRow}
 use Rattle.constraint.specs.declared.row.Row.{Row}
-use Rattle.constraints.specs.Turn.{kindOf, leftOf, rightOf}
+use Rattle.new_rows.specs.Turn.{kindOf, leftOf, rightOf}
 use Rattle.constraints.specs.Pairs.{pairRow, pairsOf, mandatoryOne, mandatory, mandatoryPairs}
 use Rattle.constraints.specs.steps.Marks.{MarkedOne, Marked}
-use Rattle.constraints.proofs.Turning.{kind-is, kind-not}
+use Rattle.new_rows.proofs.Turning.{kind-is, kind-not}
 
 pub pair-row-is : (left right : ℕ) {row : Row} {r : ℕ} → row ≡ plainRow 4 left right → r ≡ rowNumber row → r ≡ pairRow left right
 unfolding pairRow

@@ -9,7 +9,7 @@ use Rattle.constraint.specs.Told.{Told, done, refused, outcome}
 use Rattle.constraint.specs.declared.check.Counts.{Counts}
 use Rattle.constraint.proofs.ToldLaws as laws
 use Rattle.constraint.proofs.ToldLaws.{refusalOf, refusal-back}
-use Rattle.constraints.specs.Turn.{turnedRows}
+use Rattle.new_rows.specs.Turn.{turnedRows}
 use Rattle.constraints.specs.Groups.{sameChoosers}
 use Rattle.constraints.specs.Pairs.{groupPairs, mandatoryPairs}
 use Rattle.constraints.specs.Copies.{copiesAll}

@@ -26,7 +26,7 @@ use Rattle.constraint.proofs.KeptLaws.{Kept, kept, keeps, good-each}
 use Rattle.constraint.proofs.KindLaws.{takes-given, takes-scheduling, takes-assignment}
 use Rattle.constraint.proofs.RowLaws.{Fits, row-of-number, row-fits}
 use Rattle.union_find.specs.State.{joinAll, rootOf}
-use Rattle.constraints.specs.Turn.{kindOf, leftOf, rightOf, turnedRow, turnedOne, turnedRows}
+use Rattle.new_rows.specs.Turn.{kindOf, leftOf, rightOf, turnedRow, turnedOne, turnedRows}
 use Rattle.constraints.specs.Groups.{sameChoosers, joins}
 use Rattle.constraints.specs.Pairs.{pairRow, pairsOf, groupPairs, mandatoryOne, mandatory, mandatoryPairs}
 use Rattle.constraints.specs.Copies.{copyTo, copiesIn, isCopied, copiesOf, copiesAll}

@@ -5,7 +5,7 @@ use Prim.Native.Nat.{ℕ}
 use lib.Dec.{eqb}
 use Rattle.lists.specs.Group.{classes}
 use Rattle.union_find.specs.State.{joinAll, rootOf}
-use Rattle.constraints.specs.Turn.{kindOf, leftOf, rightOf}
+use Rattle.new_rows.specs.Turn.{kindOf, leftOf, rightOf}
 
 -- the two choices that a row of kind 10 joins
 unfoldable pub joinOne : ℕ → List (ℕ × ℕ)

@@ -1,4 +1,3 @@
-pub mod Turn
 pub mod Groups
 pub mod Pairs
 pub mod Copies

@@ -4,7 +4,7 @@ use mathlib.Core.List.{List, [], _∷_, _++_, map, flatMap}
 use Prim.Native.Nat.{ℕ, zero, suc}
 use lib.Dec.{eqb}
 use Rattle.constraint.specs.Row.{rowNumber, plainRow}
-use Rattle.constraints.specs.Turn.{kindOf, leftOf, rightOf}
+use Rattle.new_rows.specs.Turn.{kindOf, leftOf, rightOf}
 
 -- 'a kind 4 row' of two choices, the one at the earlier position left
 unfoldable pub pairRow : ℕ → ℕ → ℕ

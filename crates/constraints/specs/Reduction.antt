@@ -11,7 +11,7 @@ use Rattle.constraint.specs.Check.{countsInRange, rowsJudged}
 use Rattle.constraint.specs.Told.{Told, done, refuse, refusalTells, unless, Outcome, outcome, judged}
 use Rattle.constraint.specs.declared.check.Counts.{Counts}
 use Rattle.constraint.specs.declared.check.Takes.the-variants as takes
-use Rattle.constraints.specs.Turn.{kindOf, turnedRows, clashOf}
+use Rattle.new_rows.specs.Turn.{kindOf, turnedRows, clashOf}
 use Rattle.constraints.specs.Groups.{sameChoosers}
 use Rattle.constraints.specs.Pairs.{groupPairs, mandatoryPairs}
 use Rattle.constraints.specs.Copies.{copiesAll}

@@ -1,16 +1,16 @@
 // 'For each row of kind 11 or 12, the same row for every other member of its choice's group.'
-use super::free;
 use constraint::kind::Kind;
 use constraint::number::Choice;
 use constraint::number::Chooser;
 use constraint::row::Row;
+use new_rows::free;
 ghost use mathlib.Core.Path.{_≡_};
 ghost use mathlib.Core.List.{flatMap};
 ghost use lib.Dec.{eqb};
 ghost use lib.ListN.{length};
 ghost use Rattle.lists.specs.Keep.{anyOf};
 ghost use Rattle.lists.specs.steps.Cut.{cutAt, EndsFit};
-ghost use Rattle.constraints.specs.steps.Free.{Wrote, Countable};
+ghost use Rattle.new_rows.specs.Free.{Wrote, Countable};
 ghost use Rattle.constraints.specs.Copies.{copyTo, copiesIn, isCopied, copiesOf, copiesAll};
 
 // Whether a group holds a choice.

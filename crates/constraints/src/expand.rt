@@ -1,10 +1,10 @@
 // All rows of a reduction before equal ones are dropped.
 use super::copies;
-use super::free;
 use super::groups;
 use super::pairs;
-use super::turn;
 use constraint::check::Counts;
+use new_rows::free;
+use new_rows::turn;
 ghost use mathlib.Core.Path.{_≡_};
 ghost use lib.ListN.{length};
 ghost use Rattle.lists.specs.steps.Cut.{cutAt, EndsFit};

@@ -4,6 +4,7 @@ use constraint::check::Checked;
 use constraint::check::Counts;
 use constraint::check::Takes;
 use constraint::refusal::Refusal;
+use new_rows::turn;
 ghost use mathlib.Core.Path.{_≡_};
 ghost use lib.ListN.{length};
 ghost use Rattle.constraint.specs.Told.{outcome};
@@ -12,10 +13,8 @@ ghost use Rattle.constraints.specs.steps.Expand.{Given};
 
 mod copies;
 mod expand;
-mod free;
 mod groups;
 mod pairs;
-mod turn;
 
 // The most rows that a reduction may have before equal ones are dropped, and the length of the pool lent for them.
 pub const MOST_ROWS: usize = 1024;

@@ -1,25 +1,16 @@
 // 'a kind 4 row for each pair i < j of positions in each same-choosers group .., and in each chooser's list of kind 11 choices'
-use super::free;
 use constraint::kind::Kind;
-use constraint::number::Choice;
 use constraint::row::Row;
+use new_rows::free;
+use new_rows::pair::pair_row;
 ghost use mathlib.Core.Path.{_≡_};
 ghost use mathlib.Core.List.{map};
 ghost use Prim.Native.Nat.{_+_, _≤_, _<_};
 ghost use lib.ListN.{length, getD};
 ghost use Rattle.lists.specs.steps.Cut.{cutAt, EndsFit};
-ghost use Rattle.constraint.specs.Row.{plainRow};
-ghost use Rattle.constraints.specs.steps.Free.{Wrote, Countable};
+ghost use Rattle.new_rows.specs.Free.{Wrote, Countable};
 ghost use Rattle.constraints.specs.Pairs.{pairRow, pairsOf, groupPairs, mandatoryOne, mandatory, mandatoryPairs};
 ghost use Rattle.constraints.specs.steps.Marks.{MarkedOne, Marked};
-
-// The kind 4 row of two choices: the one at the earlier position is left, also where it is the larger one.
-fn pair_row(earlier: u16, later: u16) -> Row
-    ensures { λ r. ⌜ r ≡ plainRow 4 earlier later ⌝ }
-{
-    let kind = Kind::CHOICES_ARE_NOT_IN_SAME_SLOT;
-    Row::choice_choice(kind, Choice(earlier), Choice(later))
-}
 
 // Writes the pairs of one choice with each of a list; the answer is the place after them.
 fn pairs_with(left: u16, list: &[u16], free: &mut [u64], from: usize) -> usize

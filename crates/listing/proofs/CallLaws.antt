@@ -1,23 +1,25 @@
--- The call: both runs from the empty start, and what they make of the answer and the buffer.
+-- The call: the second run from the empty start, and what they make of the answer and the buffer.
 use mathlib.Core.Path.{_≡_, sym, ap, _∙_}
-use mathlib.Core.Bool.{Bool, true, false}
+use mathlib.Core.Bool.{true, false}
 use mathlib.Core.List.{List, flatten}
-use Prim.Native.Nat.{ℕ, _+_, _-_, _≤_, _<_, _^_, min}
+use Prim.Native.Nat.{ℕ, _-_, _≤_, _<_, _^_, min}
 use native.Mathlib.Nat.{zero-add, sub-zero}
 use native.Mathlib.Omega.{arith}
+use borrow.Author.Tests.{leb-true}
 use lib.Dec.{leb}
 use lib.ListN.{length, take, getD, replicate, length-replicate}
 use lib.Seq.{sets}
 use Rattle.constraint.specs.Told.{done, refused, good, outcome}
 use Rattle.constraint.specs.declared.check.Counts.{Counts}
 use Rattle.scheduling.specs.Day.{Day, dayOf}
-use Rattle.listing.specs.Placements.{plans, page, total, nodes}
-use Rattle.listing.specs.Outcome.{plansTold, turnsTold, judgeOf, listedOf, listOf}
-use Rattle.listing.specs.steps.Walk.{numbersAsked, countsOf, nodesFrom, plansFrom}
-use Rattle.listing.specs.steps.Runs.{Walks, Counted, Lists, Listing, Judged}
-use Rattle.listing.proofs.PageLaws.{put-page, page-length}
-use Rattle.listing.proofs.Members.{sized-plans}
-use Rattle.listing.proofs.WholeLaws.{zeros-at, plans-all, nodes-all, total-within}
+use Rattle.listing_nodes.specs.Placements.{plans, page, total, nodes}
+use Rattle.listing.specs.Outcome.{plansTold, turnsTold, listedOf, listOf}
+use Rattle.listing_nodes.specs.Judge.{judgeOf}
+use Rattle.listing_nodes.specs.steps.Walk.{numbersAsked, countsOf, plansFrom}
+use Rattle.listing_nodes.specs.steps.Runs.{Walks, Lists, Listing, Judged}
+use Rattle.listing_nodes.proofs.PageLaws.{put-page, page-length}
+use Rattle.listing_nodes.proofs.Members.{sized-plans}
+use Rattle.listing_nodes.proofs.WholeLaws.{zeros-at, plans-all, total-within}
 
 -- how many plans the page holds
 page-told : (day : Day) (first room : ℕ) {all : ℕ} → all ≡ total day → min room (all - first) ≡ length (page day first room)
@@ -25,8 +27,8 @@ unfolding page total
 page-told day first room a = ap (λ (k : ℕ). min room (k - first)) a ∙ sym (page-length first room (plans day))
 
 module _ (day : Day) (room : ℕ) (buffer : List ℕ) (j : Judged day room buffer) where
-  -- both runs start with no choice placed and all sums 0
-  pub start-walks : {sums : List ℕ} → sums ≡ replicate 24 0 → Walks (day .counts .slots) (day .counts .choosers) (day .mins) (day .optional) 0 sums
+  -- the run starts with no choice placed and all sums 0
+  start-walks : {sums : List ℕ} → sums ≡ replicate 24 0 → Walks (day .counts .slots) (day .counts .choosers) (day .mins) (day .optional) 0 sums
   start-walks e =
       record {
         few-choices = omega (arith, j .few-choices, j .mins-fit);
@@ -70,35 +72,23 @@ module _ (day : Day) (room : ℕ) (buffer : List ℕ) (j : Judged day room buffe
         let a = rw whole-plans at (g .added) in
         (a .counted ∙ zero-add (length (plans day)), a .written ∙ put-page first room (day .counts .choices) (plans day) buffer 0 first (sized-plans day) (zero-add first))
 
-  -- ---- the first run
+  -- ---- the turns
 
-  module _ {sums sums' : List ℕ} {budget left : ℕ} {holds : Bool} (e : sums ≡ replicate 24 0)
-      (c : Counted (nodesFrom (day .counts .slots) (day .counts .choosers) (day .mins) (day .optional) (length (day .mins) - 0) 0 sums) budget left sums sums' holds) where
-    whole-nodes : nodesFrom (day .counts .slots) (day .counts .choosers) (day .mins) (day .optional) (length (day .mins) - 0) 0 sums ≡ nodes day
-    whole-nodes = rw (sub-zero, j .mins-fit, e) (nodes-all day (j .few-slots))
+  pub turns-told : (first budget : ℕ) → leb (nodes day) budget ≡ false → outcome (done turnsTold) buffer ≡ listedOf day first room budget buffer
+  unfolding listedOf
+  turns-told first budget f = rw f
 
-    holds-is : holds ≡ leb (nodes day) budget
-    holds-is = c .answer ∙ ap (λ (n : ℕ). leb n budget) whole-nodes
+  module _ (budget : ℕ) {visited : ℕ} (w : (leb (nodes day) budget ≡ true) × (visited ≡ nodes day)) where
+    pub total-fits : budget < 2 ^ 64 → total day < 2 ^ 64
+    unfolding total
+    total-fits h = omega (arith, total-within day (j .few-slots), leb-true (nodes day) budget (w .0))
 
-    pub turns-told : (first : ℕ) → holds ≡ false → outcome (done turnsTold) buffer ≡ listedOf day first room budget buffer
+    pub plans-told : (first : ℕ) {written all : ℕ} {buffer' : List ℕ} → all ≡ total day → written ≡ min room (all - first)
+        → buffer' ≡ sets buffer 0 (flatten (page day first room)) → outcome (done (plansTold written all visited)) buffer' ≡ listedOf day first room budget buffer
     unfolding listedOf
-    turns-told first f = rw (sym holds-is ∙ f)
-
-    module _ (t : holds ≡ true) where
-      spent-is : budget ≡ nodes day + left
-      spent-is = c .spent t ∙ ap (λ (n : ℕ). n + left) whole-nodes
-
-      pub total-fits : budget < 2 ^ 64 → total day < 2 ^ 64
-      unfolding total
-      total-fits h = omega (arith, total-within day (j .few-slots), spent-is)
-
-      pub plans-told : (first : ℕ) {written all visited : ℕ} {buffer' : List ℕ} → visited ≡ budget - left → all ≡ total day → written ≡ min room (all - first)
-          → buffer' ≡ sets buffer 0 (flatten (page day first room)) → outcome (done (plansTold written all visited)) buffer' ≡ listedOf day first room budget buffer
-      unfolding listedOf
-      plans-told first {written} {all} {visited} {buffer'} v a w b =
-          let n : visited ≡ nodes day = omega (arith, v, spent-is) in
-          let l : written ≡ length (page day first room) = w ∙ page-told day first room a in
-          rw (sym holds-is ∙ t, a, b, n, l)
+    plans-told first {written} {all} {buffer'} a e b =
+        let l : written ≡ length (page day first room) = e ∙ page-told day first room a in
+        rw (w .0, a, b, w .1, l)
 
 -- ---- the second run with its numbers in one array
 

@@ -9,7 +9,7 @@ use Rattle.scheduling.specs.Day.{Day, dayOf}
 use Rattle.scheduling.specs.Plan.{slotOf, omitted, standsIn, sumUpTo, sumIn}
 use Rattle.scheduling.specs.Rows.{keepsRows}
 use Rattle.scheduling.specs.Feasible.{omissionAllowed, placeAllowed, placesAllowed, slotFits, feasible}
-use Rattle.listing.specs.Placements.{slotsFrom, places, placements, plans, page, total, isNode, nodes}
+use Rattle.listing_nodes.specs.Placements.{slotsFrom, places, placements, plans, page, total, isNode, nodes}
 
 abbrev sample : Day
 sample =

@@ -14,12 +14,13 @@ use Rattle.constraint.specs.Told.{Told, done, refused, good, Outcome, outcome}
 use Rattle.constraint.proofs.ToldLaws.{refusalOf, refusal-back, done-is}
 use Rattle.constraint.proofs.ToldLaws as tellings
 use Rattle.scheduling.specs.Day.{Day}
-use Rattle.listing.specs.Placements.{placements, page, total, isNode, nodes}
-use Rattle.listing.specs.Outcome.{PageTold, plansTold, turnsTold, listedTells, judgeOf, listedOf, listOf}
+use Rattle.listing_nodes.specs.Placements.{placements, page, total, isNode, nodes}
+use Rattle.listing.specs.Outcome.{PageTold, plansTold, turnsTold, listedTells, listedOf, listOf}
+use Rattle.listing_nodes.specs.Judge.{judgeOf}
 use Rattle.listing.specs.declared.list_plans.Listed.{Listed}
 use Rattle.listing.specs.declared.list_plans.Listed.the-variants as listed
 use Rattle.listing.proofs.CallLaws.{good-told}
-use Rattle.listing.proofs.StartLaws.{empty-node}
+use Rattle.listing_nodes.proofs.StartLaws.{empty-node}
 
 -- the answer, read back from what it tells
 abbrev pub listedBack : Told PageTold → Listed

@@ -1,3 +1,1 @@
-pub mod Placements
 pub mod Outcome
-pub mod steps

@@ -1,29 +1,24 @@
-// The public call: its refusals, the count of the nodes against the budget, and the listing.
-use super::nodes::count_choice;
-use super::nodes::no_sums;
-use super::nodes::spent_of;
+// The public call: refused, out of turns, or listed.
 use super::page::written_of;
 use super::plans::list_choice;
 use super::plans::numbers_asked;
 use constraint::check::Checked;
 use constraint::check::Counts;
-use constraint::check::Takes;
-use constraint::check::check_each_row;
-use constraint::check::counts_in_range;
 use constraint::refusal::Refusal;
-use day_lists::flags_fit;
+use listing_nodes::judge::judge;
+use listing_nodes::nodes::Counting;
+use listing_nodes::nodes::count_nodes;
+use listing_nodes::nodes::no_sums;
 ghost use mathlib.Core.Path.{_≡_};
 ghost use mathlib.Core.List.{flatten};
-ghost use Prim.Native.Nat.{_*_, _<_, _^_};
-ghost use lib.Dec.{eqb};
-ghost use lib.ListN.{length, replicate};
+ghost use Prim.Native.Nat.{_<_, _^_};
+ghost use lib.ListN.{length};
 ghost use lib.Seq.{sets};
 ghost use Rattle.scheduling.specs.Day.{dayOf};
-ghost use Rattle.listing.specs.Placements.{page, total};
-ghost use Rattle.constraint.specs.Check.{checkedTells};
+ghost use Rattle.listing_nodes.specs.Placements.{page, total};
 ghost use Rattle.constraint.specs.Told.{outcome};
-ghost use Rattle.listing.specs.Outcome.{lengthsFit, judgeOf, listedTells, listedOf, listOf};
-ghost use Rattle.listing.specs.steps.Runs.{Judged};
+ghost use Rattle.listing.specs.Outcome.{listedTells, listedOf, listOf};
+ghost use Rattle.listing_nodes.specs.steps.Runs.{Judged};
 
 // What the listing answers: how many plans it wrote, how many there are and how many nodes it visited; or out of turns; or why it is refused.
 pub enum Listed {
@@ -34,74 +29,6 @@ pub enum Listed {
     },
     Turns,
     Refused(Refusal),
-}
-
-// Whether the lent buffer has C bytes for each plan that there is room for, whatever the room.
-fn buffer_fits(choices: usize, room: u64, size: usize) -> bool
-    ensures { λ r. ⌜ r ≡ eqb size (room * choices) ⌝ }
-{
-    if choices == 0 {
-        return size == 0;
-    }
-    if size / choices < room as usize {
-        return false;
-    }
-    size == room as usize * choices
-}
-
-// 'every other slice .. at the length its counts give'.
-fn lengths_fit(
-    counts: Counts,
-    mins: &[u16],
-    maxs: &[u16],
-    optional: &[u8],
-    rows: &[u64],
-    room: u64,
-    size: usize,
-) -> bool
-    ensures { λ r. ⌜ r ≡ lengthsFit (dayOf counts (now (mins .entry)) (now (maxs .entry)) (now (optional .entry)) (now (rows .entry))) room size ⌝ }
-{
-    if mins.len() != counts.choices {
-        return false;
-    }
-    if maxs.len() != counts.choices {
-        return false;
-    }
-    if optional.len() != counts.choices {
-        return false;
-    }
-    if rows.len() != counts.rows {
-        return false;
-    }
-    buffer_fits(counts.choices, room, size)
-}
-
-// The refusals, lowest number first: 1, 2, 5 with the first bad row, 13.
-fn judge(
-    counts: Counts,
-    mins: &[u16],
-    maxs: &[u16],
-    optional: &[u8],
-    rows: &[u64],
-    room: u64,
-    size: usize,
-) -> Checked
-    ensures { λ r. ⌜ checkedTells r ≡ judgeOf (dayOf counts (now (mins .entry)) (now (maxs .entry)) (now (optional .entry)) (now (rows .entry))) room size ⌝ }
-{
-    if !counts_in_range(counts, Takes::Scheduling) {
-        return Checked::Refused(Refusal::Count);
-    }
-    if !lengths_fit(counts, mins, maxs, optional, rows, room, size) {
-        return Checked::Refused(Refusal::Length);
-    }
-    let checked = check_each_row(counts, Takes::Scheduling, rows);
-    if let Checked::Refused(why) = checked {
-        return Checked::Refused(why);
-    }
-    if !flags_fit(optional) {
-        return Checked::Refused(Refusal::Optional);
-    }
-    Checked::Good
 }
 
 // 64 places, of which a day uses the first C.
@@ -161,14 +88,10 @@ fn list_day(
     requires { ⌜ Judged (dayOf counts (now mins) (now maxs) (now optional) (now rows)) room (now buffer) ⌝ }
     ensures { λ r. ⌜ outcome (listedTells r) (now (buffer .exit)) ≡ listedOf (dayOf counts (now (mins .entry)) (now (maxs .entry)) (now (optional .entry)) (now (rows .entry))) first room budget (now (buffer .entry)) ⌝ }
 {
-    let mut sums = no_sums();
-    let mut left = budget;
-    let slots = counts.slots;
-    let choosers = counts.choosers;
-    if !count_choice(slots, choosers, &mins, &optional, 0, &mut sums, &mut left) {
+    let counted = count_nodes(counts, mins, optional, budget);
+    let Counting::Within(nodes) = counted else {
         return Listed::Turns;
-    }
-    let nodes = spent_of(budget, left);
+    };
     let total = list_all(counts, mins, maxs, optional, rows, first, room, buffer);
     let written = written_of(first, room, total);
     Listed::Plans {

@@ -3,7 +3,7 @@ ghost use mathlib.Core.Path.{_≡_};
 ghost use Prim.Native.Nat.{_+_, _-_, _*_, _≤_, min};
 ghost use lib.ListN.{length};
 ghost use lib.Seq.{sets};
-ghost use Rattle.listing.specs.steps.Walk.{putPlan};
+ghost use Rattle.listing_nodes.specs.steps.Walk.{putPlan};
 
 // Copies a plan into the buffer from a place on.
 fn copy_at(plan: &[u8], buffer: &mut [u8], at: usize)

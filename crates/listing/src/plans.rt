@@ -1,15 +1,15 @@
 // The second run, within the budget: each full start is given to the plan check once, and what passes is numbered and put on the page.
-use super::nodes::wide;
 use super::page::put_plan;
 use constraint::check::Counts;
+use listing_nodes::nodes::wide;
 use scheduling::feasible::is_feasible;
 use scheduling::plan::OMITTED;
 ghost use mathlib.Core.Path.{_≡_};
 ghost use Prim.Native.Nat.{_+_, _-_, _≤_, _<_, _^_};
 ghost use lib.ListN.{length, getD, set, take};
 ghost use Rattle.scheduling.specs.Day.{dayOf};
-ghost use Rattle.listing.specs.steps.Walk.{numbersAsked, countsOf, placeOf, placeFits, sumsWith, sumsWithout, nextOpen, ifFeasible, plansFrom, plansLeft};
-ghost use Rattle.listing.specs.steps.Runs.{Walks, Stands, Shaped, Lists, Added, Listing, Open};
+ghost use Rattle.listing_nodes.specs.steps.Walk.{numbersAsked, countsOf, placeOf, placeFits, sumsWith, sumsWithout, nextOpen, ifFeasible, plansFrom, plansLeft};
+ghost use Rattle.listing_nodes.specs.steps.Runs.{Walks, Stands, Shaped, Lists, Added, Listing, Open};
 
 // Where each of the numbers stands that all the starts share: the day's counts, the first plan number and the room.
 const CHOICES: usize = 0;

@@ -7,10 +7,9 @@ use native.Mathlib.Nat.{zero-add}
 use native.Mathlib.Omega.{arith}
 use borrow.Author.Tests.{le-leb, lt-leb, eq-eqb, ne-eqb}
 use lib.Dec.{eqb, leb}
-use lib.ListN.{length, replicate}
+use lib.ListN.{length, replicate, length-replicate}
 use lib.Seq.{sets}
 use Rattle.lists.specs.Pool.{pad}
-use Rattle.lists.proofs.Outcome.{no-two}
 use Rattle.lists.proofs.Stores.{sets-zeros}
 use Rattle.constraint.specs.Told.{Told, done, Verdict, refuse, outcome}
 use Rattle.constraint.specs.Told as verdict
@@ -18,19 +17,20 @@ use Rattle.constraint.proofs.ToldLaws.{refusalOf, refusal-back, one-outcome}
 use Rattle.constraint.specs.declared.check.Counts.{Counts}
 use Rattle.constraint.specs.declared.check.Takes.the-variants as takes
 use Rattle.constraint.proofs.CountLaws.{within}
-use Rattle.constraints.specs.Turn.{clashOf}
+use Rattle.new_rows.specs.Turn.{clashOf}
 use Rattle.constraints.specs.Reduction.{expanded}
 use Rattle.day_file.specs.File.{dayIn, longestFile}
 use Rattle.day_file.specs.Calls.{fileJudged}
-use Rattle.planner.specs.Answer.{Answer, clash, refused, searchDay, listAnswer, reduceAnswer, dayAnswer, judgedAnswer, answerOf, answerText}
-use Rattle.planner.specs.Calls.{plansText, longest, madeTells, textJudged, textOf}
-use Rattle.planner.specs.steps.Put.{Put}
+use Rattle.texts.specs.Put.{pool, putAt}
+use Rattle.texts.proofs.PutLaws.{put-fits}
+use Rattle.plans_lines.specs.Lines.{Answer, clash, refused, answerText}
+use Rattle.plans_lines.specs.Pages.{longest}
+use Rattle.plans_lines.proofs.FitLaws.{Modest, answer-fits}
+use Rattle.planner.specs.Answer.{searchDay, listAnswer, reduceAnswer, dayAnswer, judgedAnswer, answerOf}
+use Rattle.planner.specs.Calls.{plansText, madeTells, textJudged, textOf}
 use Rattle.planner.specs.steps.Given.{Given}
-use Rattle.planner.specs.Number.{numberIn}
-use Rattle.planner.specs.declared.number.Number.{Number}
 use Rattle.planner.specs.declared.plans.Made.{Made}
 use Rattle.planner.specs.declared.plans.Made.the-variants as made
-use Rattle.planner.proofs.FitLaws.{Modest, answer-fits}
 use Rattle.planner.proofs.FileLaws.{given}
 use Rattle.planner.proofs.ListedLaws.{modest}
 
@@ -63,27 +63,25 @@ module _ (file : List ℕ) (first room budget : ℕ) (r : room ≤ 1024) where
   unfolding plansText
   text-fits = answer-fits (answerOf file first room budget) answer-modest
 
--- a pool for the longest text has room for any
-pub answer-room : (answer : Answer) → Modest answer → (text : List ℕ) → length text ≡ longest → 0 + length (answerText answer) ≤ length text
-answer-room answer m text e = let h = answer-fits answer m in omega (arith, h, e)
-
 -- ---- the call
 
-module _ (file : List ℕ) (first room budget : ℕ) (pool : List ℕ) where
-  pub text-room : 1024 < room → outcome (refuse 1) pool ≡ textOf file first room budget pool
+module _ (file : List ℕ) (first room budget : ℕ) (pool′ : List ℕ) where
+  pub text-room : 1024 < room → outcome (refuse 1) pool′ ≡ textOf file first room budget pool′
   unfolding textOf textJudged
   text-room h = rw (lt-leb _ _ h)
 
-  pub text-length : room ≤ 1024 → (length pool ≡ longest → ⊥) → outcome (refuse 2) pool ≡ textOf file first room budget pool
+  pub text-length : room ≤ 1024 → (length pool′ ≡ longest → ⊥) → outcome (refuse 2) pool′ ≡ textOf file first room budget pool′
   unfolding textOf textJudged
   text-length r n = rw (le-leb _ _ r, ne-eqb _ _ n)
 
-  pub text-made : room ≤ 1024 → length pool ≡ longest → {cleared pool' : List ℕ} {size : ℕ} → cleared ≡ replicate (length pool) 0
-      → Put cleared 0 (plansText file first room budget) pool' size → outcome (done size) pool' ≡ textOf file first room budget pool
+  pub text-made : room ≤ 1024 → length pool′ ≡ longest → {cleared after : List ℕ} {size : ℕ} → cleared ≡ replicate (length pool′) 0
+      → pool after size ≡ putAt cleared 0 (plansText file first room budget) → outcome (done size) after ≡ textOf file first room budget pool′
   unfolding textOf textJudged
-  text-made r e {cleared} {pool'} {size} z p =
+  text-made r e {cleared} {after} {size} z w =
+      let l : length cleared ≡ longest = ap length z ∙ length-replicate (length pool′) 0 ∙ e in
+      let p = put-fits cleared 0 (plansText file first room budget) (let h = text-fits file first room budget r in omega (arith, h, l)) w in
       let n : size ≡ length (plansText file first room budget) = p .0 ∙ zero-add _ in
-      let t : pool' ≡ pad longest (plansText file first room budget) =
+      let t : after ≡ pad longest (plansText file first room budget) =
       p .1
       ∙ ap (λ (l : List ℕ). sets l 0 (plansText file first room budget)) (z ∙ ap (λ (k : ℕ). replicate k 0) e)
       ∙ sets-zeros longest (plansText file first room budget) (text-fits file first room budget r) in
@@ -108,7 +106,3 @@ pub one-text : (file : List ℕ) (first room budget : ℕ) (pool : List ℕ) {an
     → outcome (madeTells answer) text ≡ textOf file first room budget pool → outcome (madeTells other) rest ≡ textOf file first room budget pool
     → (answer ≡ other) × (text ≡ rest)
 one-text file first room budget pool = one-outcome madeTells madeOf made-back
-
--- and none that of a number's
-pub one-number : (bytes : List ℕ) {a b : Number} → a ≡ numberIn bytes → b ≡ numberIn bytes → a ≡ b
-one-number bytes = no-two

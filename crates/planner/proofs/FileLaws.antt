@@ -31,7 +31,7 @@ use Rattle.day_file.specs.declared.read.Read.the-variants as read
 use Rattle.day_file.proofs.ReadLaws.{good-head}
 use Rattle.day_file.proofs.DayLaws.{good-body}
 use Rattle.planner.specs.Answer.{reduceAnswer, dayAnswer, answerOf}
-use Rattle.planner.specs.Answer as answer
+use Rattle.plans_lines.specs.Lines as answer
 use Rattle.planner.specs.steps.Given.{Given}
 
 -- a good file holds a day

@@ -8,7 +8,7 @@ use native.Mathlib.Nat.{mul-le-mul-right, suc-mul, zero-mul}
 use native.Mathlib.Omega.{arith}
 use lib.Dec.{leb}
 use lib.ListN.{length, take, drop, length-append, length-take, length-drop}
-use lib.Seq.{sets, sets-eq, length-sets, length-take-le}
+use lib.Seq.{take-at, drop-at, sets, sets-eq, length-sets, length-take-le}
 use Rattle.lists.proofs.Keep.{in-map, in-flatMap, kept-in}
 use Rattle.constraint.specs.Check.{countsInRange, rowsJudged}
 use Rattle.constraint.specs.declared.refusal.Refusal.{Refusal}
@@ -19,29 +19,22 @@ use Rattle.constraint.proofs.CountLaws.{within}
 use Rattle.scheduling.specs.Day.{Day}
 use Rattle.scheduling.specs.Check.{flagsJudged}
 use Rattle.scheduling.specs.Feasible.{feasible}
-use Rattle.listing.specs.Placements.{slotsFrom, places, placements, plans, page, total, nodes}
-use Rattle.listing.specs.Outcome.{PageTold, plansTold, turnsTold, listedTells, lengthsFit, judgeOf, listedOf, listOf}
+use Rattle.listing_nodes.specs.Placements.{slotsFrom, places, placements, plans, page, total, nodes}
+use Rattle.listing.specs.Outcome.{PageTold, plansTold, turnsTold, listedTells, listedOf, listOf}
+use Rattle.listing_nodes.specs.Judge.{lengthsFit, judgeOf}
 use Rattle.listing.specs.declared.list_plans.Listed.{Listed}
 use Rattle.listing.specs.declared.list_plans.Listed.the-variants as listedCase
 use Rattle.listing.proofs.CallLaws.{good-told}
-use Rattle.listing.proofs.Members.{placement-length, sized-plans}
-use Rattle.listing.proofs.PageLaws.{Sized, none, more, page-length}
-use Rattle.planner.specs.Answer.{Answer, listed, turns, listAnswer, answerText}
-use Rattle.planner.specs.steps.Pages.{plansIn}
-use Rattle.planner.proofs.FitLaws.{Modest, answer-fits, plans-in}
+use Rattle.listing_nodes.proofs.Members.{placement-length, sized-plans}
+use Rattle.listing_nodes.proofs.PageLaws.{Sized, none, more, page-length}
+use Rattle.texts.specs.Put.{Pool, putAt}
+use Rattle.plans_lines.specs.Lines.{Answer, listed, turns, answerText}
+use Rattle.plans_lines.specs.Pages.{plansIn, putListed}
+use Rattle.plans_lines.proofs.PageLaws.{listed-put}
+use Rattle.plans_lines.proofs.FitLaws.{Modest, member-drop, member-take}
+use Rattle.planner.specs.Answer.{listAnswer}
 
 -- ---- parts of a list
-
-member-drop {ℓ} : {A : Type ℓ} (n : ℕ) (l : List A) (x : A) → List·Memᴰ x (drop n l) → List·Memᴰ x l
-member-drop zero l x m = m
-member-drop (suc n) [] x m = m
-member-drop (suc n) (y ∷ l) x m = List·Memᴰ·tail (member-drop n l x m)
-
-member-take {ℓ} : {A : Type ℓ} (n : ℕ) (l : List A) (x : A) → List·Memᴰ x (take n l) → List·Memᴰ x l
-member-take zero l x m = absurd (List·Memᴰ·not-nil m)
-member-take (suc n) [] x m = m
-member-take (suc n) (y ∷ l) x m =
-    ⊎-elim (λ e. List·Memᴰ·head e) (λ k. List·Memᴰ·tail (member-take n l x k)) (List·Memᴰ·cases-cons m)
 
 sized-drop : (size n : ℕ) (l : List (List ℕ)) → Sized size l → Sized size (drop n l)
 sized-drop size zero l s = s
@@ -59,6 +52,16 @@ unfolding flatten
 sized-length size [] s = sym (zero-mul size)
 sized-length size (plan ∷ l) (more e s) =
     length-append plan (flatten l) ∙ let r = suc-mul (length l) size in omega (arith, e, sized-length size l s, r)
+
+-- the plans that lie at the front of a page are read back
+plans-in : (size : ℕ) (plans : List (List ℕ)) (page rest : List ℕ) → Sized size plans → page ≡ flatten plans ++ rest → plansIn (length plans) size page ≡ plans
+unfolding plansIn flatten
+plans-in size [] page rest s e = refl
+plans-in size (plan ∷ plans) page rest (more l s) e =
+    let f : page ≡ plan ++ (flatten plans ++ rest) = e ∙ append-assoc plan (flatten plans) rest in
+    let d : drop size page ≡ flatten plans ++ rest = ap (drop size) f ∙ drop-at plan (flatten plans ++ rest) size l in
+    let t : take size page ≡ plan = ap (take size) f ∙ take-at plan (flatten plans ++ rest) size l in
+    rw (t, plans-in size plans (drop size page) rest s d)
 
 -- ---- every place of a listed plan is a byte
 
@@ -114,10 +117,6 @@ module _ (day : Day) (first room budget : ℕ) where
       go : (b : Bool) → Modest (cond b (listed first (total day) (nodes day) (page day first room)) (turns budget))
       go true = (let h = page-few in omega (arith, h), member)
       go false = tt
-
-  pub text-fits : (text : List ℕ) → day .counts .choices ≤ 64 → day .counts .slots ≤ 24 → room ≤ 1024 → length text ≡ 288836
-      → 0 + length (answerText (listAnswer day first room budget)) ≤ length text
-  text-fits text c s r e = let h = answer-fits (listAnswer day first room budget) (modest c s r) in omega (arith, h, e)
 
   -- ---- the call on a judged day
 
@@ -224,17 +223,13 @@ module _ (day : Day) (first room budget : ℕ) (is-good : judgeOf day room (room
   lent-good : judgeOf day room (length (take size array)) ≡ good
   lent-good = ap (judgeOf day room) lent-length ∙ is-good
 
-  -- a text of 288,836 bytes has room for the answer
-  pub answer-room : {answer : Answer} (text : List ℕ) → answer ≡ listAnswer day first room budget → length text ≡ 288836 → 0 + length (answerText answer) ≤ length text
-  answer-room text e l = rw e (text-fits day first room budget text (few .0) (few .1) rooms l)
-
   module _ {result : Listed} {lent : List ℕ} (e : outcome (listedTells result) lent ≡ listOf day first room budget (take size array)) where
     -- the plans
     module _ {written all visited : ℕ} (t : result ≡ listedCase.Plans written all visited) where
       lists : Lists day first room budget (take size array) lent-good written all visited lent
       lists = plans-listed day first room budget (take size array) lent-good (ap (λ (r : Listed). outcome (listedTells r) lent) (sym t) ∙ e)
 
-      pub page-listed : listed first all visited (plansIn written (day .counts .choices) (lent ++ drop size array)) ≡ listAnswer day first room budget
+      page-listed : listed first all visited (plansIn written (day .counts .choices) (lent ++ drop size array)) ≡ listAnswer day first room budget
       page-listed =
           ap (listed first all visited) (plans-stored day first room budget (take size array) lent-good lent-length lists (drop size array))
           ∙ lists .answered
@@ -247,15 +242,24 @@ module _ (day : Day) (first room budget : ℕ) (is-good : judgeOf day room (room
           let p = page-fits in
           omega (arith, a, b, p, full)
 
-      pub page-holds : written * day .counts .choices ≤ length (lent ++ drop size array)
+      page-holds : written * day .counts .choices ≤ length (lent ++ drop size array)
       page-holds =
           let w : written * day .counts .choices ≤ room * day .counts .choices = mul-le-mul-right (day .counts .choices) (written-few day first room budget (take size array) lent-good lent-length lists) in
           let p = page-size in
           let l = page-whole in
           omega (arith, w, p, l)
 
-      pub page-numbered : first < 2 ^ 64 → all < 2 ^ 64 → first + written < 2 ^ 64
+      page-numbered : first < 2 ^ 64 → all < 2 ^ 64 → first + written < 2 ^ 64
       page-numbered = numbers-fit day first room budget (take size array) lent-good lent-length lists
+
+      -- its text is put
+      pub page-put : (text : List ℕ) → length text ≡ 288836 → first < 2 ^ 64 → all < 2 ^ 64 → {put : Pool}
+          → put ≡ putListed text first all visited written (day .counts .choices) (lent ++ drop size array) → put ≡ putAt text 0 (answerText (listAnswer day first room budget))
+      page-put text l f a e =
+          let w : written ≤ 1024 = let h = written-few day first room budget (take size array) lent-good lent-length lists in omega (arith, h, rooms) in
+          e
+          ∙ listed-put text first all visited written (day .counts .choices) (lent ++ drop size array) w (few .0) page-holds (page-numbered f a) (omega (arith, l))
+          ∙ ap (λ (answer : Answer). putAt text 0 (answerText answer)) page-listed
 
     -- out of turns
     pub page-turns : result ≡ listedCase.Turns → turns budget ≡ listAnswer day first room budget

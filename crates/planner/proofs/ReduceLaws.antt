@@ -19,17 +19,18 @@ use Rattle.constraint.specs.declared.check.Counts.{Counts}
 use Rattle.constraint.specs.declared.check.Takes.the-variants as takes
 use Rattle.constraint.specs.declared.refusal.Refusal.{Refusal}
 use Rattle.constraint.proofs.CountLaws.{within}
-use Rattle.constraints.specs.Turn.{clashOf}
+use Rattle.new_rows.specs.Turn.{clashOf}
 use Rattle.constraints.specs.Reduction.{expanded, reducedRows, searchList, rosterList, reducedTells, reductionOf, reduceOf}
 use Rattle.constraints.specs.declared.Reduction.{Reduction}
 use Rattle.constraints.specs.declared.Reduced.{Reduced}
 use Rattle.constraints.specs.declared.Reduced.the-variants as reducedCase
 use Rattle.constraints.proofs.Lists.{result-lists}
 use Rattle.scheduling.specs.Day.{Day, dayOf}
-use Rattle.listing.specs.Outcome.{lengthsFit, judgeOf}
-use Rattle.listing.proofs.JudgeLaws.{buffer-decides, judge-good}
-use Rattle.planner.specs.Answer.{Answer, clash, withRows, searchDay, listAnswer, reduceAnswer}
-use Rattle.planner.specs.Answer as answer
+use Rattle.listing_nodes.specs.Judge.{lengthsFit, judgeOf}
+use Rattle.listing_nodes.proofs.JudgeLaws.{buffer-decides, judge-good}
+use Rattle.plans_lines.specs.Lines.{clash}
+use Rattle.plans_lines.specs.Lines as answer
+use Rattle.planner.specs.Answer.{withRows, searchDay, listAnswer, reduceAnswer}
 use Rattle.planner.specs.steps.Given.{Given}
 use Rattle.planner.proofs.SearchLaws.{search-good}
 

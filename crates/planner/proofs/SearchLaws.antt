@@ -23,7 +23,7 @@ use Rattle.constraint.specs.declared.kind.Name.the-variants as name
 use Rattle.constraint.specs.declared.row.Row.{Row}
 use Rattle.constraint.proofs.KeptLaws.{Kept, kept, keeps, each-good}
 use Rattle.constraint.proofs.KindLaws.{takes-assignment}
-use Rattle.constraints.specs.Turn.{kindOf}
+use Rattle.new_rows.specs.Turn.{kindOf}
 use Rattle.constraints.specs.Reduction.{reducedRows, searchList}
 use Rattle.constraints.proofs.TableKept.{Taken, result-taken}
 use Rattle.planner.specs.Answer.{withRows}

@@ -1,28 +1,21 @@
--- What the program `plans` answers to a file and three numbers, and the text that says it: docs/PLANS.md as a definition.
-use mathlib.Core.Bool.{Bool, cond}
-use mathlib.Core.List.{List, [], _∷_, _++_, flatMap}
-use Prim.Native.Nat.{ℕ, _+_}
-use lib.Dec.{eqb, leb}
+-- What the program `plans` answers to a file and three numbers: docs/PLANS.md as a definition.
+use mathlib.Core.Bool.{cond}
+use mathlib.Core.List.{List}
+use Prim.Native.Nat.{ℕ}
+use lib.Dec.{leb}
 use lib.ListN.{length}
 use Rattle.constraint.specs.Told.{Verdict}
 use Rattle.constraint.specs.Told as verdict
 use Rattle.constraint.specs.declared.check.Counts.{Counts}
-use Rattle.constraints.specs.Turn.{clashOf}
+use Rattle.new_rows.specs.Turn.{clashOf}
 use Rattle.constraints.specs.Reduction.{expanded, reducedRows, searchList}
 use Rattle.day_file.specs.Day.{rowCounts}
 use Rattle.day_file.specs.Day as file
 use Rattle.day_file.specs.File.{dayIn, longestFile}
 use Rattle.day_file.specs.Calls.{fileJudged}
 use Rattle.scheduling.specs.Day.{Day, dayOf}
-use Rattle.listing.specs.Placements.{page, total, nodes}
-use Rattle.planner.specs.Text.{ascii, decimal, numberLine}
-
--- listed, with the first number, the total, the nodes and the page; out of turns, with the budget; a clash; or refused with 01's number
-pub data Answer : Type 0 where
-  listed : ℕ → ℕ → ℕ → List (List ℕ) → Answer
-  turns : ℕ → Answer
-  clash : Answer
-  refused : ℕ → Answer
+use Rattle.listing_nodes.specs.Placements.{page, total, nodes}
+use Rattle.plans_lines.specs.Lines.{Answer, listed, turns, clash, refused}
 
 -- the counts of a day whose list of rows is this long
 abbrev pub withRows : Counts → ℕ → Counts
@@ -60,24 +53,3 @@ judgedAnswer (verdict.refused number carried) next = refused number
 unfoldable pub answerOf : List ℕ → ℕ → ℕ → ℕ → Answer
 answerOf bytes first room budget =
     cond (leb (length bytes) longestFile) (judgedAnswer (fileJudged bytes) (dayAnswer (dayIn bytes) first room budget)) (refused 11)
-
--- a choice's place on a plan's line: its slot, or `out`
-unfoldable pub placeText : ℕ → List ℕ
-placeText place = cond (eqb place 255) (ascii " out") (ascii " " ++ decimal place)
-
--- a plan's line: `plan`, its number in the list, then the place of each choice
-unfoldable pub planLine : ℕ → List ℕ → List ℕ
-planLine number plan = ascii "plan " ++ (decimal number ++ (flatMap placeText plan ++ ascii "\n"))
-
--- plans numbered one after another
-unfoldable pub planLines : ℕ → List (List ℕ) → List ℕ
-planLines number [] = []
-planLines number (plan ∷ plans) = planLine number plan ++ planLines (number + 1) plans
-
--- line one, and what comes after it
-unfoldable pub answerText : Answer → List ℕ
-answerText (listed first total nodes plans) =
-    ascii "result listed\n" ++ (numberLine (ascii "total ") total ++ (numberLine (ascii "nodes ") nodes ++ planLines first plans))
-answerText (turns budget) = ascii "result turns\n" ++ numberLine (ascii "nodes ") budget
-answerText clash = ascii "result clash\n"
-answerText (refused number) = numberLine (ascii "result refused ") number

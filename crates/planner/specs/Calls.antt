@@ -5,17 +5,15 @@ use lib.Dec.{eqb, leb}
 use lib.ListN.{length}
 use Rattle.lists.specs.Pool.{pad}
 use Rattle.constraint.specs.Told.{Told, done, Verdict, good, refusalTells, unless, Outcome, outcome, judged}
-use Rattle.planner.specs.Answer.{answerOf, answerText}
+use Rattle.plans_lines.specs.Lines.{answerText}
+use Rattle.plans_lines.specs.Pages.{longest}
+use Rattle.planner.specs.Answer.{answerOf}
 use Rattle.planner.specs.declared.plans.Made.{Made}
 use Rattle.planner.specs.declared.plans.Made.the-variants as made
 
 -- the whole text that `plans` prints for a file
 unfoldable pub plansText : List ℕ → ℕ → ℕ → ℕ → List ℕ
 plansText file first room budget = answerText (answerOf file first room budget)
-
--- the longest: 68 bytes of three lines, and 1,024 plans of 64 places at 282 bytes
-abbrev pub longest : ℕ
-longest = 288836
 
 -- what the call's answer tells: how many bytes the text takes
 abbrev pub madeTells : Made → Told ℕ

@@ -1,5 +1,3 @@
-pub mod Text
-pub mod Number
 pub mod Answer
 pub mod Calls
 pub mod steps

@@ -1,9 +1,5 @@
 // The program `plans`: a whole file and three numbers in, the whole text out.
 use super::blank;
-use super::lines::put_clash;
-use super::lines::put_listed;
-use super::lines::put_refused;
-use super::lines::put_turns;
 use super::search_list::search_count;
 use constraint::check::Counts;
 use constraint::refusal::Refusal;
@@ -14,16 +10,23 @@ use day_file::read::read_day;
 use day_file::word::LONGEST_FILE;
 use listing::list_plans::Listed;
 use listing::list_plans::list_plans;
+use plans_lines::lines::put_listed;
+use plans_lines::lines::put_turns;
 use pools::clear_bytes;
+use texts::put::put_clash;
+use texts::put::put_refused;
 ghost use mathlib.Core.Path.{_≡_};
 ghost use Prim.Native.Nat.{_*_, _≤_};
 ghost use lib.ListN.{length};
+ghost use Rattle.constraint.specs.Refusal.{numberOf};
 ghost use Rattle.constraint.specs.Told.{good, outcome};
+ghost use Rattle.texts.specs.Put.{pool, putAt};
 ghost use Rattle.scheduling.specs.Day.{dayOf};
-ghost use Rattle.listing.specs.Outcome.{judgeOf};
-ghost use Rattle.planner.specs.Answer.{listAnswer, reduceAnswer, answerText};
-ghost use Rattle.planner.specs.Calls.{plansText, longest, madeTells, textOf};
-ghost use Rattle.planner.specs.steps.Put.{Put};
+ghost use Rattle.listing_nodes.specs.Judge.{judgeOf};
+ghost use Rattle.plans_lines.specs.Lines.{answerText, refused};
+ghost use Rattle.plans_lines.specs.Pages.{longest};
+ghost use Rattle.planner.specs.Answer.{listAnswer, reduceAnswer};
+ghost use Rattle.planner.specs.Calls.{plansText, madeTells, textOf};
 ghost use Rattle.planner.specs.steps.Given.{Given};
 
 // The most plans that a page of the program may have.
@@ -36,6 +39,13 @@ pub const LONGEST_TEXT: usize = 288_836;
 pub enum Made {
     Text(usize),
     Refused(Refusal),
+}
+
+// The text of a refusal.
+fn put_refusal(text: &mut [u8], why: Refusal) -> usize
+    ensures { λ r. ⌜ pool (now (text .exit)) r ≡ putAt (now (text .entry)) 0 (answerText (refused (numberOf why))) ⌝ }
+{
+    put_refused(text, why.number() as u64)
 }
 
 // The text of a day that the listing takes.
@@ -51,7 +61,7 @@ fn put_plans_of(
     text: &mut [u8],
 ) -> usize
     requires { ⌜ judgeOf (dayOf counts (now mins) (now maxs) (now optional) (now rows)) room (room * counts .choices) ≡ good ⌝ ∗ ⌜ room ≤ 1024 ⌝ ∗ ⌜ length (now text) ≡ longest ⌝ }
-    ensures { λ r. ⌜ Put (now (text .entry)) 0 (answerText (listAnswer (dayOf counts (now (mins .entry)) (now (maxs .entry)) (now (optional .entry)) (now (rows .entry))) first room budget)) (now (text .exit)) r ⌝ }
+    ensures { λ r. ⌜ pool (now (text .exit)) r ≡ putAt (now (text .entry)) 0 (answerText (listAnswer (dayOf counts (now (mins .entry)) (now (maxs .entry)) (now (optional .entry)) (now (rows .entry))) first room budget)) ⌝ }
 {
     let mut buffer = blank::page();
     let size = room as usize * counts.choices;
@@ -81,7 +91,7 @@ fn put_plans_of(
             &buffer,
         ),
         Listed::Turns => put_turns(text, budget),
-        Listed::Refused(why) => put_refused(text, why),
+        Listed::Refused(why) => put_refusal(text, why),
     }
 }
 
@@ -98,7 +108,7 @@ fn put_day(
     text: &mut [u8],
 ) -> usize
     requires { ⌜ Given counts (now mins) (now maxs) (now optional) (now rows) ⌝ ∗ ⌜ room ≤ 1024 ⌝ ∗ ⌜ length (now text) ≡ longest ⌝ }
-    ensures { λ r. ⌜ Put (now (text .entry)) 0 (answerText (reduceAnswer counts (now (mins .entry)) (now (maxs .entry)) (now (optional .entry)) (now (rows .entry)) first room budget)) (now (text .exit)) r ⌝ }
+    ensures { λ r. ⌜ pool (now (text .exit)) r ≡ putAt (now (text .entry)) 0 (answerText (reduceAnswer counts (now (mins .entry)) (now (maxs .entry)) (now (optional .entry)) (now (rows .entry)) first room budget)) ⌝ }
 {
     let mut pool = blank::reduced_rows();
     let reduced = reduce(counts, rows, &mut pool);
@@ -126,17 +136,17 @@ fn put_day(
                 text,
             )
         }
-        Reduced::Refused(why) => put_refused(text, why),
+        Reduced::Refused(why) => put_refusal(text, why),
     }
 }
 
 // The text of a file.
 fn put_file(file: &[u8], first: u64, room: u64, budget: u64, text: &mut [u8]) -> usize
     requires { ⌜ room ≤ 1024 ⌝ ∗ ⌜ length (now text) ≡ longest ⌝ }
-    ensures { λ r. ⌜ Put (now (text .entry)) 0 (plansText (now (file .entry)) first room budget) (now (text .exit)) r ⌝ }
+    ensures { λ r. ⌜ pool (now (text .exit)) r ≡ putAt (now (text .entry)) 0 (plansText (now (file .entry)) first room budget) ⌝ }
 {
     if LONGEST_FILE < file.len() {
-        return put_refused(text, Refusal::FileLength);
+        return put_refusal(text, Refusal::FileLength);
     }
     let mut mins = blank::words();
     let mut maxs = blank::words();
@@ -165,7 +175,7 @@ fn put_file(file: &[u8], first: u64, room: u64, budget: u64, text: &mut [u8]) ->
             budget,
             text,
         ),
-        Read::Refused(why) => put_refused(text, why),
+        Read::Refused(why) => put_refusal(text, why),
     }
 }
 

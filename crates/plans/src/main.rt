@@ -2,11 +2,11 @@
 use libc::STDERR_FILENO;
 use libc::STDIN_FILENO;
 use libc::STDOUT_FILENO;
-use planner::number::Number;
-use planner::number::number_of;
 use planner::plans::LONGEST_TEXT;
 use planner::plans::Made;
 use planner::plans::plans_text;
+use texts::number::Number;
+use texts::number::number_of;
 ghost use mathlib.Core.Path.{_≡_};
 ghost use lib.ListN.{length};
 

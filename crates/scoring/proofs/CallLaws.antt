@@ -28,9 +28,10 @@ use Rattle.roster_rows.specs.Rows.{keepsAssignmentRows, rosterKeeps}
 use Rattle.roster_rows.specs.steps.Shapes.{Seated}
 use Rattle.roster_rows.proofs.KindLaws.{rows-decide}
 use Rattle.scoring.specs.Sheet.{Sheet, sheetOf, rowCounts}
-use Rattle.scoring.specs.Roster.{slotsApart, seatsFit}
+use Rattle.roster_cells.specs.Cells.{slotsApart, namesScheduled, cellsJudged}
+use Rattle.scoring.specs.Roster.{seatsFit}
 use Rattle.scoring.specs.Passes.{passes, highest}
-use Rattle.scoring.specs.Check.{Scored, scored, countsKeep, lengthsKeep, listsJudged, rowsJudged, namesScheduled, cellsJudged, rosterCheckOf}
+use Rattle.scoring.specs.Check.{Scored, scored, countsKeep, lengthsKeep, listsJudged, rowsJudged, rosterCheckOf}
 use Rattle.scoring.specs.steps.Shapes.{Judged}
 use Rattle.scoring.specs.declared.roster_check.RosterCounts.{RosterCounts}
 

@@ -1,13 +1,13 @@
 -- The refusals, a law for each way through their functions.
 use mathlib.Core.Path.{_≡_, refl, sym, _∙_, ap}
-use mathlib.Core.Bool.{Bool, true, false, _&&_, not, cond}
+use mathlib.Core.Bool.{Bool, true, false, _&&_, cond}
 use mathlib.Core.List.{List, [], _∷_}
 use Prim.Native.Nat.{ℕ, _+_, _*_, _-_, _≤_, _<_}
 use native.Mathlib.Omega.{arith}
 use borrow.Author.Tests.{lt-ltb, le-ltb, le-leb, lt-leb, eq-eqb, ne-eqb}
 use lib.Dec.{eqb, ltb, leb}
 use lib.ListN.{length, getD, drop}
-use Rattle.lists.specs.All.{allOf, allAtMost}
+use Rattle.lists.specs.All.{allAtMost}
 use Rattle.lists.specs.First.{firstFailing}
 use Rattle.lists.proofs.First.{first-passes, first-fails}
 use Rattle.constraint.specs.Check.{countsInRange, mostRows, rowKeeps}
@@ -15,11 +15,9 @@ use Rattle.constraint.specs.Told.{Told, done, refused, refuse}
 use Rattle.constraint.specs.declared.check.Counts.{Counts}
 use Rattle.constraint.specs.declared.check.Takes.{Takes}
 use Rattle.constraint.specs.declared.check.Takes.the-variants.{Scheduling, Assignment}
-use Rattle.scheduling.specs.Check.{cellFits}
-use Rattle.scheduling.specs.Plan.{slotOf, omitted}
 use Rattle.day_lists.specs.Levels.{levelsRise, lastLevel}
 use Rattle.scoring.specs.Sheet.{Sheet, rowCounts}
-use Rattle.scoring.specs.Check.{countsKeep, lengthsKeep, listsJudged, listJudged, rowsJudged, namesScheduled, cellsJudged}
+use Rattle.scoring.specs.Check.{countsKeep, lengthsKeep, listsJudged, listJudged, rowsJudged}
 use Rattle.scoring.specs.declared.roster_check.RosterCounts.{RosterCounts}
 
 -- the counts, one test after the other
@@ -151,21 +149,3 @@ module _ (counts : Counts) (rows assignmentRows : List ℕ) where
 pub rows-counts : {counts given : Counts} (rows assignmentRows : List ℕ) {answer : Told (Unit {0})} → given ≡ counts → answer ≡ rowsJudged given rows assignmentRows
     → answer ≡ rowsJudged counts rows assignmentRows
 rows-counts rows assignmentRows q e = e ∙ ap (λ (n : Counts). rowsJudged n rows assignmentRows) q
-
--- 9 before 10
-module _ (slots : ℕ) (plan roster : List ℕ) where
-  pub cells-place : allOf (cellFits slots) plan ≡ false → refuse 9 ≡ cellsJudged slots plan roster
-  unfolding cellsJudged
-  cells-place f = rw f
-
-  pub cells-cell : allOf (cellFits slots) plan ≡ true → allOf (namesScheduled plan) roster ≡ false → refuse 10 ≡ cellsJudged slots plan roster
-  unfolding cellsJudged
-  cells-cell t f = rw (t, f)
-
-  pub cells-good : allOf (cellFits slots) plan ≡ true → allOf (namesScheduled plan) roster ≡ true → done tt ≡ cellsJudged slots plan roster
-  unfolding cellsJudged
-  cells-good t u = rw (t, u)
-
-pub named-by : (plan : List ℕ) (cell : ℕ) {slot : ℕ} → slot ≡ slotOf plan cell → not (eqb slot 255) ≡ namesScheduled plan cell
-unfolding namesScheduled omitted
-named-by plan cell e = ap (λ (x : ℕ). not (eqb x 255)) e

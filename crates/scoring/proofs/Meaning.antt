@@ -26,9 +26,10 @@ use Rattle.roster_rows.proofs.CellLaws.{cells-many}
 use Rattle.roster_rows.proofs.TallyLaws.{one-true, one-false}
 use Rattle.constraint.specs.Told.{Told, done, refused, andThen}
 use Rattle.scoring.specs.Sheet.{Sheet, rowCounts}
-use Rattle.scoring.specs.Roster.{slotsApart, seatsOf, seatsFit}
+use Rattle.roster_cells.specs.Cells.{slotsApart, namesScheduled, cellsJudged}
+use Rattle.scoring.specs.Roster.{seatsOf, seatsFit}
 use Rattle.scoring.specs.Passes.{passes, highest}
-use Rattle.scoring.specs.Check.{Scored, scored, listsJudged, rowsJudged, namesScheduled, cellsJudged, rosterCheckOf}
+use Rattle.scoring.specs.Check.{Scored, scored, listsJudged, rowsJudged, rosterCheckOf}
 use Rattle.scoring.proofs.CallLaws.{Listed, listed, seated, places-fit}
 
 -- the slot in which a chooser's cell at index s has it

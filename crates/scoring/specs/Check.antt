@@ -1,19 +1,18 @@
 -- The roster check as a call: its refusals, lowest number first, and its answer.
-use mathlib.Core.Bool.{Bool, true, false, _&&_, not, cond}
+use mathlib.Core.Bool.{Bool, true, false, _&&_, cond}
 use mathlib.Core.List.{List, [], _∷_}
 use Prim.Native.Nat.{ℕ, _+_, _*_}
 use lib.Dec.{eqb, ltb, leb}
 use lib.ListN.{length}
-use Rattle.lists.specs.All.{allOf, allAtMost}
+use Rattle.lists.specs.All.{allAtMost}
 use Rattle.lists.specs.First.{firstFailing}
 use Rattle.constraint.specs.Check.{countsInRange, mostRows, rowKeeps}
 use Rattle.constraint.specs.Told.{Told, done, refused, Verdict, good, refusalTells, unless, andThen}
 use Rattle.constraint.specs.declared.check.Counts.{Counts}
 use Rattle.constraint.specs.declared.check.Takes.{Takes}
 use Rattle.constraint.specs.declared.check.Takes.the-variants.{Scheduling, Assignment}
-use Rattle.scheduling.specs.Check.{cellFits}
-use Rattle.scheduling.specs.Plan.{omitted}
 use Rattle.day_lists.specs.Levels.{levelsRise, lastLevel}
+use Rattle.roster_cells.specs.Cells.{cellsJudged}
 use Rattle.scoring.specs.Sheet.{Sheet, rowCounts}
 use Rattle.scoring.specs.Passes.{passes, highest}
 use Rattle.scoring.specs.declared.roster_check.RosterCounts.{RosterCounts}
@@ -72,15 +71,6 @@ listJudged counts takes before rows =
 unfoldable pub rowsJudged : Counts → List ℕ → List ℕ → Verdict
 rowsJudged counts rows assignmentRows =
     andThen (listJudged counts Scheduling 0 rows) (listJudged counts Assignment (length rows) assignmentRows)
-
--- 10: 'a roster cell doesn't name a scheduled choice'; a number past the plan's end names none
-unfoldable pub namesScheduled : List ℕ → ℕ → Bool
-namesScheduled plan cell = not (omitted plan cell)
-
--- 9 before 10
-unfoldable pub cellsJudged : ℕ → List ℕ → List ℕ → Verdict
-cellsJudged slots plan roster =
-    unless (allOf (cellFits slots) plan) 9 (unless (allOf (namesScheduled plan) roster) 10 good)
 
 -- the call: 'Lowest number first'; else passed or not, and in both cases the highest preference met
 unfoldable pub rosterCheckOf : Sheet → Told Scored

@@ -5,7 +5,8 @@ use Rattle.lists.specs.Below.{allBelow}
 use Rattle.scheduling.specs.Rows.{keepsRows}
 use Rattle.roster_rows.specs.Cells.{cellsOf}
 use Rattle.roster_rows.specs.Rows.{keepsAssignmentRows}
-use Rattle.scoring.specs.Roster.{slotsApart, seatsFit, highestMet}
+use Rattle.roster_cells.specs.Cells.{slotsApart}
+use Rattle.scoring.specs.Roster.{seatsFit, highestMet}
 use Rattle.scoring.specs.Sheet.{Sheet}
 
 -- the roster passes; 'Rows 1 to 6 as in module 3', by the same definition

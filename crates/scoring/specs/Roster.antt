@@ -1,18 +1,12 @@
--- A roster: the slots of a chooser's cells, the seats of a choice, and the preferences met.
-use mathlib.Core.Bool.{Bool, _&&_, _||_, not}
+-- A roster: the seats of a choice, and the preferences met.
+use mathlib.Core.Bool.{Bool, _&&_, _||_}
 use mathlib.Core.List.{List}
 use Prim.Native.Nat.{ℕ, zero, suc, _+_, _*_, max}
-use lib.Dec.{eqb, leb}
-use lib.ListN.{length, getD}
-use Rattle.lists.specs.Below.{allBelow}
+use lib.Dec.{leb}
+use lib.ListN.{getD}
 use Rattle.lists.specs.Group.{timesIn}
-use Rattle.scheduling.specs.Plan.{slotOf, omitted}
+use Rattle.scheduling.specs.Plan.{omitted}
 use Rattle.roster_rows.specs.Cells.{cellsOf}
-
--- 'The scheduled slots of a chooser's choices must differ, but needn't equal s': no two of the cells name choices in one slot
-unfoldable pub slotsApart : List ℕ → List ℕ → Bool
-slotsApart plan cells =
-    allBelow (length cells) λ s. allBelow s λ t. not (eqb (slotOf plan (getD cells s 0)) (slotOf plan (getD cells t 0)))
 
 -- a choice's seats: the cells of all choosers that name it
 unfoldable pub seatsOf : List ℕ → ℕ → ℕ

@@ -1,5 +1,5 @@
 // The highest preference that a roster meets.
-use super::seats::wide;
+use roster_cells::seats::wide;
 ghost use mathlib.Core.Path.{_≡_};
 ghost use Prim.Native.Nat.{_+_, _≤_, max};
 ghost use lib.ListN.{length, getD};

@@ -7,16 +7,13 @@ use constraint::check::Takes;
 use constraint::check::counts_in_range;
 use constraint::check::row_keeps;
 use constraint::refusal::Refusal;
-use scheduling::plan::OMITTED;
-use scheduling::plan::slot_of;
 ghost use mathlib.Core.Path.{_≡_};
 ghost use Prim.Native.Nat.{_+_, _<_, _^_};
 ghost use lib.ListN.{length, getD};
-ghost use Rattle.lists.specs.All.{allOf, allAtMost};
-ghost use Rattle.scheduling.specs.Check.{cellFits};
+ghost use Rattle.lists.specs.All.{allAtMost};
 ghost use Rattle.scoring.specs.Sheet.{sheetOf, rowCounts};
 ghost use Rattle.scoring.specs.Roster.{highestBelow};
-ghost use Rattle.scoring.specs.Check.{countsKeep, listJudged, namesScheduled};
+ghost use Rattle.scoring.specs.Check.{countsKeep, listJudged};
 ghost use Rattle.constraint.specs.Check.{checkedTells};
 
 impl RosterCounts {
@@ -82,49 +79,4 @@ pub(crate) fn judge_list(counts: Counts, takes: Takes, before: usize, rows: &[u6
         i += 1;
     }
     Checked::Good
-}
-
-// Whether a cell is a slot or 255.
-fn cell_fits(slots: usize, cell: u8) -> bool
-    ensures { λ r. ⌜ r ≡ cellFits slots cell ⌝ }
-{
-    if cell == OMITTED {
-        return true;
-    }
-    (cell as usize) < slots
-}
-
-// Whether every plan cell is a slot or 255.
-pub(crate) fn places_fit(slots: usize, plan: &[u8]) -> bool
-    ensures { λ r. ⌜ r ≡ allOf (cellFits slots) (now (plan .entry)) ⌝ }
-{
-    let mut i = 0;
-    while i < plan.len() {
-        if !cell_fits(slots, plan[i]) {
-            return false;
-        }
-        i += 1;
-    }
-    true
-}
-
-// Whether a cell names a scheduled choice.
-fn names_scheduled(plan: &[u8], cell: u8) -> bool
-    ensures { λ r. ⌜ r ≡ namesScheduled (now (plan .entry)) cell ⌝ }
-{
-    slot_of(plan, cell as u16) != OMITTED
-}
-
-// Whether every roster cell names a scheduled choice.
-pub(crate) fn cells_named(plan: &[u8], roster: &[u8]) -> bool
-    ensures { λ r. ⌜ r ≡ allOf (namesScheduled (now (plan .entry))) (now (roster .entry)) ⌝ }
-{
-    let mut i = 0;
-    while i < roster.len() {
-        if !names_scheduled(plan, roster[i]) {
-            return false;
-        }
-        i += 1;
-    }
-    true
 }

@@ -1,8 +1,6 @@
 // The roster check as a public call.
 use super::highest::highest_met;
-use super::judge::cells_named;
 use super::judge::judge_list;
-use super::judge::places_fit;
 use super::judge::preferences_keep;
 use super::seats::all_apart;
 use super::seats::seats_fit;
@@ -11,6 +9,7 @@ use constraint::check::Counts;
 use constraint::check::Takes;
 use constraint::refusal::Refusal;
 use day_lists::levels_rise;
+use roster_cells::judge::judge_cells;
 use roster_rows::assignment::keeps_assignment_rows;
 use scheduling::kept::keeps_every_row;
 ghost use mathlib.Core.Path.{_≡_};
@@ -20,7 +19,7 @@ ghost use Prim.Native.Nat.{_≤_};
 ghost use lib.ListN.{length};
 ghost use Rattle.scoring.specs.Sheet.{sheetOf};
 ghost use Rattle.scoring.specs.Passes.{passes};
-ghost use Rattle.scoring.specs.Check.{countsKeep, lengthsKeep, listsJudged, rowsJudged, cellsJudged, rosterTells, rosterCheckOf};
+ghost use Rattle.scoring.specs.Check.{countsKeep, lengthsKeep, listsJudged, rowsJudged, rosterTells, rosterCheckOf};
 ghost use Rattle.constraint.specs.Check.{checkedTells};
 ghost use Rattle.scoring.specs.steps.Shapes.{Judged};
 
@@ -130,19 +129,6 @@ fn judge_rows(counts: Counts, rows: &[u64], assignment_rows: &[u64]) -> Checked
         return Checked::Refused(why);
     }
     judge_list(counts, Takes::Assignment, rows.len(), assignment_rows)
-}
-
-// Numbers 9 and 10.
-fn judge_cells(slots: usize, plan: &[u8], roster: &[u8]) -> Checked
-    ensures { λ r. ⌜ checkedTells r ≡ cellsJudged slots (now (plan .entry)) (now (roster .entry)) ⌝ }
-{
-    if !places_fit(slots, plan) {
-        return Checked::Refused(Refusal::PlanCell);
-    }
-    if !cells_named(plan, roster) {
-        return Checked::Refused(Refusal::RosterCell);
-    }
-    Checked::Good
 }
 
 // Whether the roster passes, on what is judged.

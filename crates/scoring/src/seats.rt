@@ -1,55 +1,15 @@
 // Each chooser's slots and each choice's seats.
-use scheduling::plan::OMITTED;
-use scheduling::plan::slot_of;
+use roster_cells::seats::choice_fits;
+use roster_cells::seats::slots_apart;
+use roster_cells::seats::wide;
 ghost use mathlib.Core.Path.{_≡_};
-ghost use mathlib.Core.Bool.{_&&_, _||_};
 ghost use Prim.Native.Nat.{_≤_};
-ghost use lib.Dec.{eqb, leb};
 ghost use lib.ListN.{length, replicate};
 ghost use Rattle.lists.specs.Below.{allBelow};
-ghost use Rattle.scheduling.specs.Plan.{slotOf};
 ghost use Rattle.roster_rows.specs.Cells.{cellsOf};
 ghost use Rattle.roster_rows.specs.steps.Shapes.{Seated, Tally};
-ghost use Rattle.scoring.specs.Roster.{slotsApart, seatsFit};
-
-// A byte as an index.
-pub(crate) fn wide(byte: u8) -> usize
-    ensures { λ r. ⌜ (r ≡ byte) × (r ≤ 255) ⌝ }
-{
-    byte as usize
-}
-
-// The slot of a cell's choice, as an index; 255 for none.
-fn slot_at(plan: &[u8], cell: u8) -> usize
-    ensures { λ r. ⌜ (r ≡ slotOf (now (plan .entry)) cell) × (r ≤ 255) ⌝ }
-{
-    let slot = slot_of(plan, cell as u16);
-    wide(slot)
-}
-
-// A mark for each byte, none set.
-fn no_marks() -> [u8; 256]
-    ensures { λ r. ⌜ r ≡ replicate 256 0 ⌝ }
-{
-    [0u8; 256]
-}
-
-// 'The scheduled slots of a chooser's choices must differ': no slot is met twice.
-fn slots_apart(plan: &[u8], cells: &[u8]) -> bool
-    ensures { λ r. ⌜ r ≡ slotsApart (now (plan .entry)) (now (cells .entry)) ⌝ }
-{
-    let mut met = no_marks();
-    let mut s = 0;
-    while s < cells.len() {
-        let slot = slot_at(plan, cells[s]);
-        if met[slot] == 1 {
-            return false;
-        }
-        met[slot] = 1;
-        s += 1;
-    }
-    true
-}
+ghost use Rattle.roster_cells.specs.Cells.{slotsApart};
+ghost use Rattle.scoring.specs.Roster.{seatsFit};
 
 // Whether the slots of every chooser's choices differ.
 pub(crate) fn all_apart(slots: usize, choosers: usize, plan: &[u8], roster: &[u8]) -> bool
@@ -89,19 +49,6 @@ fn count_seats(roster: &[u8]) -> [u16; 256]
         i += 1;
     }
     seats
-}
-
-// 'Each scheduled choice has min to max seats'; an omitted one may have any.
-fn choice_fits(place: u8, least: u16, most: u16, seats: u16) -> bool
-    ensures { λ r. ⌜ r ≡ (eqb place 255 || (leb least seats && leb seats most)) ⌝ }
-{
-    if place == OMITTED {
-        return true;
-    }
-    if seats < least {
-        return false;
-    }
-    seats <= most
 }
 
 // Whether every choice's seats fit.

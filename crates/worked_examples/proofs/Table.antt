@@ -21,7 +21,7 @@ use Rattle.constraint.specs.Told.{Told, done, refused}
 use Rattle.constraint.specs.declared.check.Counts.{Counts}
 use Rattle.constraint.specs.declared.row.Row.{Row}
 use Rattle.union_find.specs.State.{fresh, soundAt, taken, climb, rootOf, hung, linked, joinOf, joinFrom, joinAll}
-use Rattle.constraints.specs.Turn.{turnedRow, turnedOne, clashesAt}
+use Rattle.new_rows.specs.Turn.{turnedRow, turnedOne, clashesAt}
 use Rattle.constraints.specs.Groups.{joinOne, sameChoosers}
 use Rattle.constraints.specs.Pairs.{pairRow, pairsOf, mandatoryOne, mandatoryPairs}
 use Rattle.constraints.specs.Copies.{copyTo, copiesIn, isCopied, copiesOf}

@@ -10,7 +10,7 @@ use Rattle.constraints.proofs.reduce_rows.Tie as tie
 use Rattle.constraints.proofs.reduce_rows.Reads as reads
 use Rattle.constraints.proofs.reduce_rows.Lts as lts
 use Rattle.constraints.proofs.expand.expand.Reads as expand-reads
-use Rattle.constraints.proofs.turn.clashes.Reads as clashes-reads
+use Rattle.new_rows.proofs.turn.clashes.Reads as clashes-reads
 use Rattle.pools.proofs.clear_numbers.Reads as clear-reads
 use Rattle.sorted_rows.proofs.sort_unique.Reads as sort-unique-reads
 

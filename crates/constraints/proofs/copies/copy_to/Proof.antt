@@ -9,7 +9,7 @@ use Rattle.constraints.proofs.copies.copy_to.Reads as reads
 use Rattle.constraints.proofs.copies.copy_to.Lts as lts
 use Rattle.constraint.proofs.row.Row.chooser_choice.Reads as chooser-choice-reads
 use Rattle.constraint.proofs.row.Row.number.Reads as number-reads
-use Rattle.constraints.proofs.free.put.Reads as put-reads
+use Rattle.new_rows.proofs.free.put.Reads as put-reads
 
 -- src/copies.rt:36:9
 returns : tie.Need-returns

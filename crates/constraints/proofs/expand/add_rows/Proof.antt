@@ -14,7 +14,7 @@ use Rattle.constraints.proofs.expand.add_rows.Tie as tie
 use Rattle.constraints.proofs.expand.add_rows.Reads as reads
 use Rattle.constraints.proofs.expand.add_rows.Lts as lts
 use Rattle.constraints.proofs.copies.copies.Reads as copies-reads
-use Rattle.constraints.proofs.free.copy.Reads as copy-reads
+use Rattle.new_rows.proofs.free.copy.Reads as copy-reads
 use Rattle.constraints.proofs.pairs.group_pairs.Reads as group-pairs-reads
 use Rattle.constraints.proofs.pairs.mandatory_pairs.Reads as mandatory-pairs-reads
 

@@ -1,6 +1,4 @@
 -- The turned rows are read back from where they were written.
-use native.Mathlib.Omega.{arith}
-use Rattle.constraints.proofs.Bounds.{turned-rows-most}
 use Rattle.constraints.proofs.Filling.{turned-is, turned-within, turned-length, given-turned, filled-expanded}
 use borrow.Author.Needs.{needs}
 use Rattle.constraints.proofs.expand.expand.Statement.{statement}
@@ -8,12 +6,11 @@ use Rattle.constraints.proofs.expand.expand.Tie as tie
 use Rattle.constraints.proofs.expand.expand.Reads as reads
 use Rattle.constraints.proofs.expand.expand.Lts as lts
 use Rattle.constraints.proofs.expand.add_following.Reads as add-following-reads
-use Rattle.constraints.proofs.turn.turn.Reads as turn-reads
+use Rattle.new_rows.proofs.turn.turn.Reads as turn-reads
 
 -- src/expand.rt:84:9
 turn-requires : tie.Need-turn-requires
-turn-requires c κs =
-    omega (arith, turned-rows-most (c .before .before .args .rows .now), c .before .before .pre .rows-in)
+turn-requires c κs = search needs
 
 -- src/expand.rt:87:27
 array-share-prefix-numbers : tie.Need-array-share-prefix-numbers

@@ -3,7 +3,7 @@ use mathlib.Core.Path.{_≡_, refl, sym, _∙_}
 use Prim.Native.Nat.{_-_, _≤_}
 use native.Mathlib.Omega.{arith}
 use lib.ListN.{length}
-use Rattle.constraints.specs.steps.Free.{Wrote}
+use Rattle.new_rows.specs.Free.{Wrote}
 use Rattle.constraints.specs.Pairs.{mandatoryPairs}
 use Rattle.constraints.specs.steps.Marks.{Marked}
 use Rattle.constraints.proofs.Pairing.{choosers-none, choosers-countable, choosers-part}

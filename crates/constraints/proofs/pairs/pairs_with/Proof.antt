@@ -13,8 +13,8 @@ use Rattle.constraints.proofs.pairs.pairs_with.Statement.{statement}
 use Rattle.constraints.proofs.pairs.pairs_with.Tie as tie
 use Rattle.constraints.proofs.pairs.pairs_with.Reads as reads
 use Rattle.constraints.proofs.pairs.pairs_with.Lts as lts
-use Rattle.constraints.proofs.free.put.Reads as put-reads
-use Rattle.constraints.proofs.pairs.pair_row.Reads as pair-row-reads
+use Rattle.new_rows.proofs.free.put.Reads as put-reads
+use Rattle.new_rows.proofs.pair.pair_row.Reads as pair-row-reads
 use Rattle.constraint.proofs.row.Row.number.Reads as number-reads
 
 abbrev Inv-loop : tie.InvT-loop

@@ -1,47 +1,64 @@
 -- The first run settles the turns, and its nodes bound the total.
-use borrow.Author.Tests.{not-true, not-false}
-use Rattle.listing.proofs.CallLaws.{start-walks, turns-told, total-fits, plans-told}
+use Rattle.listing_nodes.proofs.NodeLaws.{over-budget, within-budget}
+use Rattle.listing.proofs.CallLaws.{turns-told, total-fits, plans-told}
 use borrow.Author.Needs.{needs}
 use Rattle.listing.proofs.list_plans.list_day.Statement.{statement}
 use Rattle.listing.proofs.list_plans.list_day.Tie as tie
+use Rattle.listing.proofs.list_plans.list_day.Reads as reads
+use Rattle.listing.proofs.list_plans.list_day.Lts as lts
+use Rattle.listing.proofs.list_plans.list_all.Reads as list-all-reads
+use Rattle.listing.proofs.page.written_of.Reads as written-of-reads
+use Rattle.listing_nodes.proofs.nodes.count_nodes.Reads as count-nodes-reads
 
-no-sums-requires : tie.Need-no-sums-requires
-no-sums-requires c κs = search needs
+-- src/list_plans.rt:91:9
+count-nodes-requires : tie.Need-count-nodes-requires
+count-nodes-requires c κs = search needs
 
-count-choice-requires : tie.Need-count-choice-requires
-count-choice-requires c κs =
-    start-walks _ _ _ (c .before .before .before .before .before .before .before .before .before .before .pre) (c .before .before .before .before .no-sums .ensures)
+-- src/list_plans.rt:92:26
+enum-known-counted : tie.Need-enum-known-counted
+enum-known-counted c = search needs
 
+-- src/list_plans.rt:93:9
+enum-told : tie.Need-enum-told
+enum-told c = search needs
+
+-- src/list_plans.rt:93:9
 returns : tie.Need-returns
 returns c =
-    turns-told _ _ _ (c .before .before .before .before .before .before .before .before .before .before .before .before .pre) (c .before .before .before .before .before .before .no-sums .ensures) (c .before .count-choice .ensures) _ (not-true _ (c .if1 .taken))
+    let s = c .before .before .before .before .before .before .before .before in
+    let over = over-budget (s .args .counts) (s .args .mins .now) (s .args .maxs .now) (s .args .optional .now) (s .args .rows .now) (s .args .room) (s .args .buffer .now) (s .pre) (s .args .budget) (c .before .before .count-nodes .ensures) (c .enum-told .given .1) in
+    turns-told _ _ _ (s .pre) _ (s .args .budget) over
 
-spent-of-requires : tie.Need-spent-of-requires
-spent-of-requires c κs = search needs
-
+-- src/list_plans.rt:95:9
 list-all-requires : tie.Need-list-all-requires
 list-all-requires c κs =
-    let s = c .before .before .before .before .before .before .before .before .before .before .before .before .before .before in
-    (s .pre, total-fits _ _ _ (s .pre) (c .before .before .before .before .before .before .before .before .no-sums .ensures) (c .before .before .before .count-choice .ensures) (not-false _ (c .before .before .if1 .left)) (s .fits .budget .fits))
+    let s = c .before .before .before .before .before .before .before .before .before .before in
+    let within = within-budget (s .args .counts) (s .args .mins .now) (s .args .maxs .now) (s .args .optional .now) (s .args .rows .now) (s .args .room) (s .args .buffer .now) (s .pre) (s .args .budget) (c .before .before .before .before .count-nodes .ensures) (c .before .before .counted .given .1) in
+    (s .pre, total-fits _ _ _ (s .pre) (s .args .budget) within (s .fits .budget .fits))
 
+-- src/list_plans.rt:96:9
 written-of-requires : tie.Need-written-of-requires
 written-of-requires c κs = search needs
 
+-- src/list_plans.rt:77:1
 same-length : tie.Need-same-length
 same-length c = search needs
 
+-- src/list_plans.rt:77:1
 returns-2 : tie.Need-returns-2
 returns-2 c =
-    plans-told _ _ _ (c .before .before .before .before .before .before .before .before .before .before .before .before .before .before .before .before .before .before .pre) (c .before .before .before .before .before .before .before .before .before .before .before .before .no-sums .ensures) (c .before .before .before .before .before .before .before .count-choice .ensures) (not-false _ (c .before .before .before .before .before .before .if1 .left)) _ (c .before .before .before .before .before .spent-of .ensures) (c .before .before .before .list-all .ensures .0) (c .written-of .ensures) (c .before .before .before .list-all .ensures .1)
+    let s = c .before .before .before .before .before .before .before .before .before .before .before .before .before .before in
+    let within = within-budget (s .args .counts) (s .args .mins .now) (s .args .maxs .now) (s .args .optional .now) (s .args .rows .now) (s .args .room) (s .args .buffer .now) (s .pre) (s .args .budget) (c .before .before .before .before .before .before .before .before .count-nodes .ensures) (c .before .before .before .before .before .before .counted .given .1) in
+    plans-told _ _ _ (s .pre) (s .args .budget) within _ (c .before .before .before .list-all .ensures .0) (c .written-of .ensures) (c .before .before .before .list-all .ensures .1)
 
 pub list-day-spec : {M : Type 1} → statement M
 list-day-spec =
     tie.close
     (tie.spec
-    no-sums-requires
-    count-choice-requires
+    count-nodes-requires
+    enum-known-counted
+    enum-told
     returns
-    spent-of-requires
     list-all-requires
     written-of-requires
     same-length

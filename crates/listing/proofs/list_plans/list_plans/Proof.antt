@@ -1,7 +1,7 @@
 -- Refused, or listed.
 use mathlib.Core.Path.{sym, _∙_}
 use Rattle.constraint.proofs.Outcomes.{told-by}
-use Rattle.listing.proofs.JudgeLaws.{judged}
+use Rattle.listing_nodes.proofs.JudgeLaws.{judged}
 use Rattle.listing.proofs.CallLaws.{refused-told, good-told}
 use borrow.Author.Needs.{needs}
 use Rattle.listing.proofs.list_plans.list_plans.Statement.{statement}

@@ -3,7 +3,7 @@ use mathlib.Core.Path.{_≡_, sym, _∙_}
 use Prim.Native.Nat.{_*_, _-_}
 use native.Mathlib.Omega.{arith}
 use lib.ListN.{length}
-use Rattle.listing.proofs.PageLaws.{put-before, put-behind, put-here, place-fits}
+use Rattle.listing_nodes.proofs.PageLaws.{put-before, put-behind, put-here, place-fits}
 use borrow.Author.Needs.{needs}
 use Rattle.listing.proofs.page.put_plan.Statement.{statement}
 use Rattle.listing.proofs.page.put_plan.Tie as tie

@@ -2,7 +2,7 @@
 use mathlib.Core.Path.{_∙_}
 use native.Mathlib.Omega.{arith}
 use borrow.Author.Needs.{needs}
-use Rattle.listing.proofs.ListLaws.{full-numbers, listing-full, on-walks, on-none, on-requires, listing-on, within-plan, taken-requires, stands-after, walks-back, fewer, none-left, rest-requires, listing-rest}
+use Rattle.listing_nodes.proofs.ListLaws.{full-numbers, listing-full, on-walks, on-none, on-requires, listing-on, within-plan, taken-requires, stands-after, walks-back, fewer, none-left, rest-requires, listing-rest}
 use Prim.Native.Nat.{ℕ, _+_, _-_, _*_, _<_}
 use lib.ListN.{length}
 use borrow.Fn.Kinds.{In}

@@ -2,13 +2,13 @@
 use mathlib.Core.List.{[]}
 use native.Mathlib.Omega.{arith}
 use lib.Arith.{lt-of-le-ne}
-use Rattle.listing.proofs.PlaceLaws.{without-omission, without-slot}
+use Rattle.listing_nodes.proofs.PlaceLaws.{without-omission, without-slot}
 use borrow.Author.Needs.{needs}
 use Rattle.listing.proofs.plans.leave_place.Statement.{statement}
 use Rattle.listing.proofs.plans.leave_place.Tie as tie
 use Rattle.listing.proofs.plans.leave_place.Reads as reads
 use Rattle.listing.proofs.plans.leave_place.Lts as lts
-use Rattle.listing.proofs.nodes.wide.Reads as wide-reads
+use Rattle.listing_nodes.proofs.nodes.wide.Reads as wide-reads
 
 returns : tie.Need-returns
 returns c =

@@ -1,7 +1,7 @@
 -- A full start: nothing more, or one plan more.
 use mathlib.Core.Path.{refl}
 use borrow.Author.Tests.{not-true, not-false}
-use Rattle.listing.proofs.PageLaws.{told-counts, buffer-room, not-added, number-fits, one-added}
+use Rattle.listing_nodes.proofs.PageLaws.{told-counts, buffer-room, not-added, number-fits, one-added}
 use borrow.Author.Needs.{needs}
 use Rattle.listing.proofs.plans.list_plan.Statement.{statement}
 use Rattle.listing.proofs.plans.list_plan.Tie as tie

@@ -1,13 +1,13 @@
 -- Omission by the flag, a slot by its sum.
 use native.Mathlib.Omega.{arith}
 use lib.Arith.{lt-of-le-ne}
-use Rattle.listing.proofs.PlaceLaws.{may-omit, may-stand}
+use Rattle.listing_nodes.proofs.PlaceLaws.{may-omit, may-stand}
 use borrow.Author.Needs.{needs}
 use Rattle.listing.proofs.plans.may_take.Statement.{statement}
 use Rattle.listing.proofs.plans.may_take.Tie as tie
 use Rattle.listing.proofs.plans.may_take.Reads as reads
 use Rattle.listing.proofs.plans.may_take.Lts as lts
-use Rattle.listing.proofs.nodes.wide.Reads as wide-reads
+use Rattle.listing_nodes.proofs.nodes.wide.Reads as wide-reads
 
 index-1-result : tie.Need-index-1-result
 index-1-result c = search needs

@@ -1,6 +1,6 @@
 -- The six numbers in their places.
 use mathlib.Core.Path.{refl}
-use Rattle.listing.specs.steps.Walk.{numbersAsked}
+use Rattle.listing_nodes.specs.steps.Walk.{numbersAsked}
 use Rattle.listing.proofs.plans.numbers_asked.Statement.{statement}
 use Rattle.listing.proofs.plans.numbers_asked.Tie as tie
 use Rattle.listing.proofs.plans.numbers_asked.Reads as reads

@@ -2,13 +2,13 @@
 use mathlib.Core.List.{[]}
 use native.Mathlib.Omega.{arith}
 use lib.Arith.{lt-of-le-ne}
-use Rattle.listing.proofs.PlaceLaws.{put-omission, with-omission, put-slot, with-slot}
+use Rattle.listing_nodes.proofs.PlaceLaws.{put-omission, with-omission, put-slot, with-slot}
 use borrow.Author.Needs.{needs}
 use Rattle.listing.proofs.plans.take_place.Statement.{statement}
 use Rattle.listing.proofs.plans.take_place.Tie as tie
 use Rattle.listing.proofs.plans.take_place.Reads as reads
 use Rattle.listing.proofs.plans.take_place.Lts as lts
-use Rattle.listing.proofs.nodes.wide.Reads as wide-reads
+use Rattle.listing_nodes.proofs.nodes.wide.Reads as wide-reads
 
 index-1-plan : tie.Need-index-1-plan
 index-1-plan c = search needs

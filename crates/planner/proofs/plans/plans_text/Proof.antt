@@ -3,10 +3,6 @@ use Rattle.planner.proofs.CallLaws.{text-room, text-length, text-made}
 use borrow.Author.Needs.{needs}
 use Rattle.planner.proofs.plans.plans_text.Statement.{statement}
 use Rattle.planner.proofs.plans.plans_text.Tie as tie
-use Rattle.planner.proofs.plans.plans_text.Reads as reads
-use Rattle.planner.proofs.plans.plans_text.Lts as lts
-use Rattle.planner.proofs.plans.put_file.Reads as put-file-reads
-use Rattle.pools.proofs.clear_bytes.Reads as clear-bytes-reads
 
 returns : tie.Need-returns
 returns c =

@@ -7,9 +7,6 @@ use Rattle.constraints.specs.Reduction.{searchList}
 use Rattle.planner.proofs.SearchLaws.{search-on, search-few, search-done}
 use Rattle.planner.proofs.search_list.search_count.Statement.{statement}
 use Rattle.planner.proofs.search_list.search_count.Tie as tie
-use Rattle.planner.proofs.search_list.search_count.Reads as reads
-use Rattle.planner.proofs.search_list.search_count.Lts as lts
-use Rattle.planner.proofs.search_list.search_one.Reads as search-one-reads
 
 abbrev Inv-loop : tie.InvT-loop
 Inv-loop rows count₀ i₀ count i =
@@ -19,47 +16,38 @@ abbrev μ-loop : tie.MeasureT-loop
 μ-loop rows count₀ i₀ count i =
     length rows - i
 
--- src/search_list.rt:29:5
 loop-holds : tie.Need-loop-holds Inv-loop μ-loop
 loop-holds c =
     (omega arith, omega arith, omega arith)
 
--- src/search_list.rt:30:29
 mul-search-one : tie.Need-mul-search-one Inv-loop μ-loop
 mul-search-one c =
     search needs
 
--- src/search_list.rt:30:29
 shared-slice-read-search-one : tie.Need-shared-slice-read-search-one Inv-loop μ-loop
 shared-slice-read-search-one c =
     search needs
 
--- src/search_list.rt:30:18
 search-one-requires : tie.Need-search-one-requires Inv-loop μ-loop
 search-one-requires c κs =
     search needs
 
--- src/search_list.rt:30:9
 add-count : tie.Need-add-count Inv-loop μ-loop
 add-count c =
     let l = c .before .before .before .loop in let one = c .search-one .ensures .1 in omega (arith, l .inv .1, one, c .before .before .loop-test .taken)
 
--- src/search_list.rt:31:9
 add-i : tie.Need-add-i Inv-loop μ-loop
 add-i c =
     search needs
 
--- src/search_list.rt:29:5
 loop-less : tie.Need-loop-less Inv-loop μ-loop
 loop-less c =
     search needs
 
--- src/search_list.rt:29:5
 loop-again : tie.Need-loop-again Inv-loop μ-loop
 loop-again c =
     let l = c .before .before .before .loop in let one = c .search-one .ensures in let t = c .before .before .loop-test .taken in (omega arith, omega (arith, l .inv .1, one .1), (let s = search-on (c .before .before .before .before .before .args .rows .now) (l .i) t in omega (arith, one .0, s, l .inv .2)))
 
--- src/search_list.rt:24:1
 returns : tie.Need-returns Inv-loop μ-loop
 returns c =
     let l = c .before .loop in let d = search-done (c .before .before .before .args .rows .now) (l .i) (c .loop-test .left) in omega (arith, d, l .inv .2)

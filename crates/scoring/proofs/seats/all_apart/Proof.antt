@@ -8,7 +8,7 @@ use borrow.Author.Tests.{not-true, not-false}
 use Rattle.lists.specs.Below.{allBelow}
 use Rattle.lists.proofs.Through.{all-none, all-done}
 use Rattle.roster_rows.specs.Cells.{cellsOf}
-use Rattle.scoring.specs.Roster.{slotsApart}
+use Rattle.roster_cells.specs.Cells.{slotsApart}
 use Rattle.scoring.proofs.SeatLaws.{part-at, part-end, part-small, next-start, one-meets, none-meets}
 use Rattle.scoring.proofs.seats.all_apart.Statement.{statement}
 use Rattle.scoring.proofs.seats.all_apart.Tie as tie

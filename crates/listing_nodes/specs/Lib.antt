@@ -1,0 +1,4 @@
+pub mod Placements
+pub mod Judge
+pub mod Nodes
+pub mod steps

@@ -1,0 +1,23 @@
+-- The nodes of a day against a budget.
+use mathlib.Core.Bool.{Bool, _&&_, cond}
+use Prim.Native.Nat.{ℕ}
+use lib.Dec.{eqb, leb}
+use lib.ListN.{length}
+use Rattle.constraint.specs.Check.{countsInRange}
+use Rattle.constraint.specs.declared.check.Takes.the-variants.{Scheduling}
+use Rattle.scheduling.specs.Day.{Day}
+use Rattle.listing_nodes.specs.Placements.{nodes}
+use Rattle.listing_nodes.specs.declared.nodes.Counting.{Counting}
+use Rattle.listing_nodes.specs.declared.nodes.Counting.the-variants as counting
+
+-- a day whose nodes are counted: its counts in their ranges, with a minimum and a flag for each choice
+unfoldable pub countable : Day → Bool
+countable day =
+    countsInRange (day .counts) Scheduling
+    && eqb (length (day .mins)) (day .counts .choices)
+    && eqb (length (day .optional)) (day .counts .choices)
+
+-- how many there are, if they are within the budget
+unfoldable pub nodesWithin : Day → ℕ → Counting
+nodesWithin day budget =
+    cond (countable day) (cond (leb (nodes day) budget) (counting.Within (nodes day)) counting.Over) counting.Over

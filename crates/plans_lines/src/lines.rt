@@ -1,0 +1,127 @@
+// The lines of the program `plans`.
+use texts::put::put_bytes;
+use texts::put::put_number;
+use texts::put::put_number_line;
+ghost use mathlib.Core.Path.{_≡_};
+ghost use mathlib.Core.List.{flatMap};
+ghost use Prim.Native.Nat.{_+_, _*_, _≤_, _<_, _^_};
+ghost use lib.ListN.{length};
+ghost use Rattle.texts.specs.Put.{pool, putAt};
+ghost use Rattle.texts.specs.steps.Put.{Fits, Put};
+ghost use Rattle.plans_lines.specs.Lines.{placeText, planLine, planLines, answerText, listed, turns};
+ghost use Rattle.plans_lines.specs.Pages.{plansIn, putListed};
+
+// One place of a plan: a slot, or `out`.
+fn put_place(text: &mut [u8], at: usize, place: u8) -> usize
+    requires { ⌜ Fits (now text) at (placeText place) ⌝ }
+    ensures { λ r. ⌜ Put (now (text .entry)) at (placeText place) (now (text .exit)) r ⌝ }
+{
+    if place == 255 {
+        return put_bytes(text, at, b" out");
+    }
+    let number_at = put_bytes(text, at, b" ");
+    put_number(text, number_at, place as u64)
+}
+
+// The places of a plan.
+fn put_places(text: &mut [u8], at: usize, plan: &[u8]) -> usize
+    requires { ⌜ Fits (now text) at (flatMap placeText (now plan)) ⌝ }
+    ensures { λ r. ⌜ Put (now (text .entry)) at (flatMap placeText (now (plan .entry))) (now (text .exit)) r ⌝ }
+{
+    let mut next = at;
+    let mut i = 0;
+    while i < plan.len() {
+        next = put_place(text, next, plan[i]);
+        i += 1;
+    }
+    next
+}
+
+// A plan's line.
+fn put_plan(text: &mut [u8], at: usize, number: u64, plan: &[u8]) -> usize
+    requires { ⌜ Fits (now text) at (planLine number (now plan)) ⌝ }
+    ensures { λ r. ⌜ Put (now (text .entry)) at (planLine number (now (plan .entry))) (now (text .exit)) r ⌝ }
+{
+    let number_at = put_bytes(text, at, b"plan ");
+    let places_at = put_number(text, number_at, number);
+    let end_at = put_places(text, places_at, plan);
+    put_bytes(text, end_at, b"\n")
+}
+
+// A line for each of the plans that lie one after another in the page.
+fn put_plans(
+    text: &mut [u8],
+    at: usize,
+    first: u64,
+    count: usize,
+    choices: usize,
+    page: &[u8],
+) -> usize
+    requires { ⌜ count * choices ≤ length (now page) ⌝ ∗ ⌜ first + count < 2 ^ 64 ⌝ ∗ ⌜ Fits (now text) at (planLines first (plansIn count choices (now page))) ⌝ }
+    ensures { λ r. ⌜ Put (now (text .entry)) at (planLines first (plansIn count choices (now (page .entry)))) (now (text .exit)) r ⌝ }
+{
+    let mut next = at;
+    let mut i = 0;
+    while i < count {
+        let from = i * choices;
+        next = put_plan(text, next, first + i as u64, &page[from..from + choices]);
+        i += 1;
+    }
+    next
+}
+
+// `listed`, which has room: the total, the nodes and the plans of the page.
+fn put_fitting_listed(
+    text: &mut [u8],
+    first: u64,
+    total: u64,
+    nodes: u64,
+    count: usize,
+    choices: usize,
+    page: &[u8],
+) -> usize
+    requires { ⌜ count * choices ≤ length (now page) ⌝ ∗ ⌜ first + count < 2 ^ 64 ⌝ ∗ ⌜ Fits (now text) 0 (answerText (listed first total nodes (plansIn count choices (now page)))) ⌝ }
+    ensures { λ r. ⌜ Put (now (text .entry)) 0 (answerText (listed first total nodes (plansIn count choices (now (page .entry))))) (now (text .exit)) r ⌝ }
+{
+    let total_at = put_bytes(text, 0, b"result listed\n");
+    let nodes_at = put_number_line(text, total_at, b"total ", total);
+    let plans_at = put_number_line(text, nodes_at, b"nodes ", nodes);
+    put_plans(text, plans_at, first, count, choices, page)
+}
+
+// `listed`: the total, the nodes and the plans of the page.
+pub fn put_listed(
+    text: &mut [u8],
+    first: u64,
+    total: u64,
+    nodes: u64,
+    count: usize,
+    choices: usize,
+    page: &[u8],
+) -> usize
+    ensures { λ r. ⌜ pool (now (text .exit)) r ≡ putListed (now (text .entry)) first total nodes count choices (now (page .entry)) ⌝ }
+{
+    if 1024 < count {
+        return 0;
+    }
+    if 64 < choices {
+        return 0;
+    }
+    if page.len() < count * choices {
+        return 0;
+    }
+    if 18_446_744_073_709_551_615 - first < count as u64 {
+        return 0;
+    }
+    if text.len() < 288_836 {
+        return 0;
+    }
+    put_fitting_listed(text, first, total, nodes, count, choices, page)
+}
+
+// `turns`: the budget that didn't hold.
+pub fn put_turns(text: &mut [u8], budget: u64) -> usize
+    ensures { λ r. ⌜ pool (now (text .exit)) r ≡ putAt (now (text .entry)) 0 (answerText (turns budget)) ⌝ }
+{
+    put_number_line(text, 0, b"result turns\nnodes ", budget)
+}

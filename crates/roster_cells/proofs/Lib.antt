@@ -1,0 +1,3 @@
+pub mod ApartLaws
+pub mod JudgeLaws
+pub mod Settled

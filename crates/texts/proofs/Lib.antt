@@ -1,0 +1,5 @@
+pub mod NumberLaws
+pub mod DecimalLaws
+pub mod PutLaws
+pub mod LineLaws
+pub mod Settled
