@@ -1,0 +1,5 @@
+pub mod CaseLaws
+pub mod LoopLaws
+pub mod AllowLaws
+pub mod Outcomes
+pub mod Examples

@@ -1,0 +1,17 @@
+// What is decided of each choice: a slot, 255 for omitted, or nothing yet.
+ghost use mathlib.Core.Path.{_≡_};
+ghost use Rattle.rows_allow.specs.Allow.{decisionOf};
+
+// The byte of a choice that isn't decided yet.
+pub const UNDECIDED: u8 = 254;
+
+// A choice's slot, 255 or 254; a choice past the end is undecided.
+pub(crate) fn decision_of(decisions: &[u8], choice: u16) -> u8
+    ensures { λ r. ⌜ r ≡ decisionOf (now (decisions .entry)) choice ⌝ }
+{
+    let at = choice as usize;
+    if decisions.len() <= at {
+        return UNDECIDED;
+    }
+    decisions[at]
+}
