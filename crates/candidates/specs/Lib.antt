@@ -1,0 +1,4 @@
+pub mod Loads
+pub mod Tests
+pub mod Bucket
+pub mod steps

@@ -1,0 +1,5 @@
+// The candidates of a new depth.
+pub mod bucket;
+mod critical;
+mod loads;
+mod stuck;

@@ -1,0 +1,3 @@
+-- The laws of insertion.
+pub mod InsertLaws
+pub mod Settled
