@@ -1,0 +1,358 @@
+-- Each way through a turn: the walk from where the code stands is the whole pass.
+use mathlib.Core.Path.{_≡_, refl, sym, _∙_, ap, ap₂}
+use mathlib.Core.Bool.{Bool, true, false, cond, false≢true}
+use mathlib.Core.List.{List, [], _∷_}
+use Prim.Native.Nat.{ℕ, zero, suc, _+_, _*_, _-_, _≤_, _<_, _^_}
+use native.Mathlib.Omega.{arith}
+use borrow.Author.Tests.{ltb-true}
+use lib.Dec.{ltb}
+use lib.ListN.{length, getD, set, take, drop, replicate, length-replicate}
+use lib.Seq.{drop-cons}
+use Rattle.lists.specs.Keep.{sumOver}
+use Rattle.lists.specs.Pool.{window}
+use Rattle.search_walk.specs.Walk.{Sight, goal, over, on, Out, hit, dry, cut, opened, used, walk, pass}
+use Rattle.search_walk.proofs.WalkLaws.{opened-new, opened-old, used-new, used-old, walk-goal, walk-over, walk-cut, walk-close, walk-back, walk-down, pass-walk}
+use Rattle.choice_order.proofs.OrderLaws.{permutation-length, below, distinct}
+use Rattle.candidates.specs.Loads.{Loads, loadsOf}
+use Rattle.pass_rules.specs.Decided.{decided, loadsAt}
+use Rattle.pass_rules.specs.Pass.{Lent, remainingAt, askedAt, candidatesAt, drawAfter, planOf, sightAt, passOf}
+use Rattle.search_pass.specs.Call.{leaves, found, without, wanting, leftBy}
+use Rattle.search_pass.specs.declared.state.SearchState.{SearchState}
+use Rattle.search_pass.specs.steps.Counted.{Counted, Known, Moved}
+use Rattle.search_pass.specs.steps.Standing.{stackOf, made, Held, Opened}
+use Rattle.search_pass.specs.steps.Seen.{sightFrom}
+use Rattle.search_pass.specs.steps.Opening.{Taken, askedFrom, candidatesFrom, drewFrom, drawFrom}
+use Rattle.search_pass.proofs.DecidedLaws.{decided-none, decided-more, later-undecided, step-back}
+use Rattle.search_pass.proofs.LoadLaws.{listed, sums-listed, counts-listed, nothing-listed}
+use Rattle.search_pass.proofs.StackLaws.{stack-empty, stack-some, stack-none, stack-taken, held-taken, held-back}
+
+-- ---- what remains
+
+-- a choice and those after it
+pub remains-at : (lent : Lent) (depth : ℕ) → depth < length (lent .order) → remainingAt lent depth ≡ getD (lent .day .maxs) (getD (lent .order) depth 0) 0 + remainingAt lent (depth + 1)
+unfolding remainingAt sumOver
+remains-at lent depth h =
+    let e : suc depth ≡ depth + 1 = omega arith in
+    let f : ℕ → ℕ = λ choice. getD (lent .day .maxs) choice 0 in
+    ap (sumOver f) (drop-cons (lent .order) depth 0 h) ∙ ap (λ (n : ℕ). f (getD (lent .order) depth 0) + sumOver f (drop n (lent .order))) e
+
+sum-words : (f : ℕ → ℕ) (l : List ℕ) → ((k : ℕ) → f k ≤ 65535) → sumOver f l ≤ 65535 * length l
+unfolding sumOver
+sum-words f [] h = omega arith
+sum-words f (x ∷ l) h = omega (arith, h x, sum-words f l h)
+
+drop-short : (n : ℕ) (l : List ℕ) → length (drop n l) ≤ length l
+drop-short zero l = omega arith
+drop-short (suc n) [] = omega arith
+drop-short (suc n) (x ∷ l) = omega (arith, drop-short n l)
+
+pub remains-fits : (lent : Lent) (depth : ℕ) → ((k : ℕ) → getD (lent .day .maxs) k 0 ≤ 65535) → length (lent .order) ≤ 64 → remainingAt lent depth ≤ 65535 * 64
+unfolding remainingAt
+remains-fits lent depth f h = omega (arith, sum-words (λ choice. getD (lent .day .maxs) choice 0) (drop depth (lent .order)) f, drop-short depth (lent .order))
+
+-- ---- where the code stands
+
+pub record Standing (lent : Lent) (whole : Out) (left : ℕ) (new : Bool) (depth draw remaining : ℕ) (state : SearchState) (pool next end : List ℕ) : Type 0 where
+  pub places : List ℕ
+  pub at : length places ≡ depth
+  pub within : depth ≤ lent .day .counts .choices
+  pub old-within : new ≡ false → depth < lent .day .counts .choices
+  pub decides : state .decisions ≡ decided (lent .order) places
+  pub counted : Counted (lent .day .mins) (lent .day .maxs) state
+  pub remains : remaining ≡ remainingAt lent depth
+  pub held : Held pool next end (made new depth)
+  pub same : walk (sightAt lent) (candidatesAt lent) (drawAfter lent) left new places (stackOf pool next end (made new depth)) draw ≡ whole
+
+-- a state's sums and counts as they are handed on
+abbrev pub loadsIn : SearchState → Loads
+loadsIn state = loadsOf (state .decisions) (state .«slot_min») (state .«slot_max») (state .sizes)
+
+loads-are : (mins maxs : List ℕ) (state : SearchState) → Counted mins maxs state → loadsIn state ≡ loadsAt mins maxs (state .decisions)
+unfolding loadsAt
+loads-are mins maxs state k = rw (k .min-sums, k .max-sums, k .counts)
+
+asked-are : (lent : Lent) (places : List ℕ) (draw : ℕ) → askedAt lent places draw ≡ askedFrom lent (loadsAt (lent .day .mins) (lent .day .maxs) (decided (lent .order) places)) (length places) draw
+unfolding askedAt askedFrom
+asked-are lent places draw = refl
+
+candidates-are : (lent : Lent) (places : List ℕ) (draw : ℕ) → candidatesAt lent places draw ≡ candidatesFrom lent (loadsAt (lent .day .mins) (lent .day .maxs) (decided (lent .order) places)) (length places) draw
+unfolding candidatesAt candidatesFrom
+candidates-are lent places draw = rw (asked-are lent places draw)
+
+draws-are : (lent : Lent) (places : List ℕ) (draw : ℕ) → drawAfter lent places draw ≡ drawFrom lent (loadsAt (lent .day .mins) (lent .day .maxs) (decided (lent .order) places)) (length places) draw
+unfolding drawAfter drawFrom drewFrom
+draws-are lent places draw = rw (asked-are lent places draw)
+
+sight-are : (lent : Lent) (places : List ℕ) → sightAt lent places ≡ sightFrom (lent .full) (lent .day) (decided (lent .order) places) (length places)
+unfolding sightAt sightFrom planOf
+sight-are lent places = refl
+
+plan-is : (lent : Lent) (places : List ℕ) → planOf lent places ≡ take (lent .day .counts .choices) (decided (lent .order) places)
+unfolding planOf
+plan-is lent places = refl
+
+-- how many candidates the deepest depth has
+abbrev firstLength : List (List ℕ) → ℕ
+firstLength [] = 0
+firstLength (l ∷ stack) = length l
+
+-- how many depths have candidates after a step down, and after a step back
+made-true : (depth : ℕ) → made true (depth + 1) ≡ suc depth
+unfolding made
+made-true depth = omega arith
+
+made-false : (depth : ℕ) → made false depth ≡ suc depth
+unfolding made
+made-false depth = refl
+
+made-none : made true 0 ≡ 0
+unfolding made
+made-none = refl
+
+-- no choice stands twice in the order
+apart-of : (lent : Lent) → Taken lent → (i j : ℕ) → i < j → j < lent .day .counts .choices → getD (lent .order) i 0 ≡ getD (lent .order) j 0 → ⊥
+apart-of lent t i j l h e = omega (arith, distinct _ _ (t .ordered) i j (omega arith) h e)
+
+module _ (lent : Lent) (whole : Out) (left : ℕ) (new : Bool) (depth draw remaining : ℕ) (state : SearchState) (pool next end : List ℕ)
+    (k : Standing lent whole left new depth draw remaining state pool next end) where
+  sight-is : (seen : Sight) → seen ≡ sightFrom (lent .full) (lent .day) (state .decisions) depth → sightAt lent (k .places) ≡ seen
+  sight-is seen e =
+      sight-are lent (k .places)
+      ∙ ap₂ (λ (d : List ℕ) (n : ℕ). sightFrom (lent .full) (lent .day) d n) (sym (k .decides)) (k .at)
+      ∙ sym e
+
+  loads-is : loadsAt (lent .day .mins) (lent .day .maxs) (decided (lent .order) (k .places)) ≡ loadsIn state
+  loads-is = ap (loadsAt (lent .day .mins) (lent .day .maxs)) (sym (k .decides)) ∙ sym (loads-are (lent .day .mins) (lent .day .maxs) state (k .counted))
+
+  candidates-is : candidatesAt lent (k .places) draw ≡ candidatesFrom lent (loadsIn state) depth draw
+  candidates-is = candidates-are lent (k .places) draw ∙ ap₂ (λ (l : Loads) (n : ℕ). candidatesFrom lent l n draw) loads-is (k .at)
+
+  draws-is : drawAfter lent (k .places) draw ≡ drawFrom lent (loadsIn state) depth draw
+  draws-is = draws-are lent (k .places) draw ∙ ap₂ (λ (l : Loads) (n : ℕ). drawFrom lent l n draw) loads-is (k .at)
+
+  -- ---- the pass ends
+
+  pub at-goal : (plan plan' : List ℕ) → goal ≡ sightFrom (lent .full) (lent .day) (state .decisions) depth → plan' ≡ take (lent .day .counts .choices) (state .decisions)
+      → leaves (found left draw) plan' ≡ leftBy lent plan whole
+  at-goal plan plan' e p =
+      let w : hit left (k .places) draw ≡ whole = sym (walk-goal (sightAt lent) (candidatesAt lent) (drawAfter lent) left new (k .places) (stackOf pool next end (made new depth)) draw (sight-is goal e)) ∙ k .same in
+      ap (leaves (found left draw)) (p ∙ ap (take (lent .day .counts .choices)) (k .decides) ∙ sym (plan-is lent (k .places))) ∙ ap (leftBy lent plan) w
+
+  pub at-over : (plan : List ℕ) → over ≡ sightFrom (lent .full) (lent .day) (state .decisions) depth → leaves (without left draw) plan ≡ leftBy lent plan whole
+  at-over plan e =
+      let w : dry left draw ≡ whole = sym (walk-over (sightAt lent) (candidatesAt lent) (drawAfter lent) left new (k .places) (stackOf pool next end (made new depth)) draw (sight-is over e)) ∙ k .same in
+      ap (leftBy lent plan) w
+
+  pub at-cut : (plan : List ℕ) → left ≤ 0 → on ≡ sightFrom (lent .full) (lent .day) (state .decisions) depth → leaves (wanting draw) plan ≡ leftBy lent plan whole
+  at-cut plan z e =
+      let n : left ≡ 0 = omega arith in
+      let w : cut draw ≡ whole = sym (walk-cut (sightAt lent) (candidatesAt lent) (drawAfter lent) new (k .places) (stackOf pool next end (made new depth)) draw (sight-is on e))
+      ∙ ap (λ (turns : ℕ). walk (sightAt lent) (candidatesAt lent) (drawAfter lent) turns new (k .places) (stackOf pool next end (made new depth)) draw) (sym n) ∙ k .same in
+      ap (leftBy lent plan) w
+
+  -- ---- a turn, the candidates of a new depth made
+
+  module _ (t : Taken lent) (r : ℕ) (pool' next' end' : List ℕ)
+      (o : Opened (candidatesFrom lent (loadsIn state) depth draw) (drawFrom lent (loadsIn state) depth draw) new depth draw pool next end r pool' next' end') where
+    opened-is : opened (candidatesAt lent) new (k .places) (stackOf pool next end (made new depth)) draw ≡ stackOf pool' next' end' (suc depth)
+    unfolding made
+    opened-is = go new (k .places) refl (o .stack)
+      where
+        go : (b : Bool) (places : List ℕ) → places ≡ k .places
+            → stackOf pool' next' end' (suc depth) ≡ cond b (candidatesFrom lent (loadsIn state) depth draw ∷ stackOf pool next end depth) (stackOf pool next end (suc depth))
+            → opened (candidatesAt lent) b (k .places) (stackOf pool next end (made b depth)) draw ≡ stackOf pool' next' end' (suc depth)
+        go true places e s =
+            opened-new (candidatesAt lent) (k .places) (stackOf pool next end depth) draw
+            ∙ ap (λ (c : List ℕ). c ∷ stackOf pool next end depth) candidates-is ∙ sym s
+        go false places e s = opened-old (candidatesAt lent) (k .places) (stackOf pool next end (suc depth)) draw ∙ sym s
+
+    used-is : used (drawAfter lent) new (k .places) draw ≡ r
+    used-is = go new (o .draws)
+      where
+        go : (b : Bool) → r ≡ cond b (drawFrom lent (loadsIn state) depth draw) draw → used (drawAfter lent) b (k .places) draw ≡ r
+        go true d = used-new (drawAfter lent) (k .places) draw ∙ draws-is ∙ sym d
+        go false d = used-old (drawAfter lent) (k .places) draw ∙ sym d
+
+    -- the closing turn
+    pub at-close : (plan : List ℕ) → on ≡ sightFrom (lent .full) (lent .day) (state .decisions) depth → 0 < left → depth ≡ 0 → getD end' depth 0 ≤ getD next' depth 0
+        → leaves (without (left - 1) r) plan ≡ leftBy lent plan whole
+    at-close plan e h z b = go (k .places) (k .at) (k .same) (sight-is on e) opened-is used-is
+      where
+        go : (places : List ℕ) → length places ≡ depth
+            → walk (sightAt lent) (candidatesAt lent) (drawAfter lent) left new places (stackOf pool next end (made new depth)) draw ≡ whole
+            → sightAt lent places ≡ on
+            → opened (candidatesAt lent) new places (stackOf pool next end (made new depth)) draw ≡ stackOf pool' next' end' (suc depth)
+            → used (drawAfter lent) new places draw ≡ r
+            → leaves (without (left - 1) r) plan ≡ leftBy lent plan whole
+        go [] a w s p u =
+            ap (leftBy lent plan)
+            (ap (dry (left - 1)) (sym u)
+            ∙ sym (walk-close (sightAt lent) (candidatesAt lent) (drawAfter lent) left new (stackOf pool next end (made new depth)) (stackOf pool' next' end' depth) draw s
+            (p ∙ stack-none pool' next' end' depth (o .held) (omega (arith, k .within, t .few-choices)) b) h)
+            ∙ w)
+        go (x ∷ places) a w s p u = absurd (omega arith)
+
+    -- ---- a step down
+
+    -- above depth C only: at depth C there is no candidate
+    pub down-within : getD next' depth 0 < getD end' depth 0 → depth < lent .day .counts .choices
+    unfolding candidatesFrom
+    down-within b = go new refl
+      where
+        some : stackOf pool' next' end' (suc depth)
+            ≡ (getD pool' (getD next' depth 0) 0 ∷ window (getD next' depth 0 + 1) (getD end' depth 0 - (getD next' depth 0 + 1)) pool') ∷ stackOf pool' next' end' depth
+        some = stack-some pool' next' end' depth (o .held) (omega (arith, k .within, t .few-choices)) b
+
+        by : (c : Bool) → ltb depth (lent .day .counts .choices) ≡ c → new ≡ true → depth < lent .day .counts .choices
+        by true c e = ltb-true _ _ c
+        by false c e =
+            let s : stackOf pool' next' end' (suc depth) ≡ [] ∷ stackOf pool next end depth = rw (e, c) at (o .stack) in
+            absurd (omega (arith, ap firstLength (sym some ∙ s)))
+
+        go : (b : Bool) → new ≡ b → depth < lent .day .counts .choices
+        go true e = by (ltb depth (lent .day .counts .choices)) refl e
+        go false e = k .old-within e
+
+    module _ (choice : ℕ) (b : getD next' depth 0 < getD end' depth 0) (q : choice ≡ getD (lent .order) depth 0) where
+      pub down-known : Known (lent .day .mins) (lent .day .maxs) choice
+      down-known =
+          let c : choice < lent .day .counts .choices = rw q (below _ _ (t .ordered) depth (down-within b)) in
+          record { few = omega (arith, t .few-choices); min-there = omega (arith, t .mins-fit); max-there = omega (arith, t .maxs-fit) }
+
+      -- its choice is undecided
+      pub down-undecided : getD (state .decisions) choice 254 ≡ 254
+      down-undecided =
+          rw (k .decides, q)
+          (later-undecided (lent .day .counts .choices) (lent .order) (t .few-choices) (below _ _ (t .ordered)) (apart-of lent t) (k .places) depth (omega (arith, k .at)) (down-within b))
+
+      pub down-holds : (v : ℕ) → v ≡ getD (lent .day .maxs) choice 0 → v ≤ remaining
+      down-holds v e =
+          omega (arith, k .remains, remains-at lent depth (omega (arith, down-within b, permutation-length _ _ (t .ordered))), e ∙ ap (λ (n : ℕ). getD (lent .day .maxs) n 0) q)
+
+      pub at-down : (v : ℕ) (state' : SearchState) → on ≡ sightFrom (lent .full) (lent .day) (state .decisions) depth → 0 < left → v ≡ getD (lent .day .maxs) choice 0
+          → Moved (lent .day .mins) (lent .day .maxs) state choice (getD pool' (getD next' depth 0) 0) state'
+          → Standing lent whole (left - 1) true (depth + 1) r (remaining - v) state' pool' (set next' depth (getD next' depth 0 + 1)) end'
+      at-down v state' e h ev m =
+          let few : depth ≤ 64 = omega (arith, k .within, t .few-choices) in
+          let place = getD pool' (getD next' depth 0) 0 in
+          let rest = window (getD next' depth 0 + 1) (getD end' depth 0 - (getD next' depth 0 + 1)) pool' in
+          let after = set next' depth (getD next' depth 0 + 1) in
+          let n : made true (depth + 1) ≡ suc depth = made-true depth in
+          record {
+            places = place ∷ k .places;
+            at = omega (arith, k .at);
+            within = omega (arith, down-within b);
+            old-within = λ z. absurd (false≢true (sym z));
+            decides =
+                m .decisions
+                ∙ ap₂ (λ (d : List ℕ) (c : ℕ). set d c place) (k .decides) (q ∙ ap (λ (i : ℕ). getD (lent .order) i 0) (sym (k .at)))
+                ∙ sym (decided-more (lent .order) (k .places) place);
+            counted = m .counted;
+            remains =
+                omega (arith, k .remains, remains-at lent depth (omega (arith, down-within b, permutation-length _ _ (t .ordered))), ev ∙ ap (λ (i : ℕ). getD (lent .day .maxs) i 0) q);
+            held = rw n (held-taken pool' next' end' depth (o .held) few b);
+            same =
+                ap₂ (λ (s : List (List ℕ)) (d : ℕ). walk (sightAt lent) (candidatesAt lent) (drawAfter lent) (left - 1) true (place ∷ k .places) s d)
+                (ap (stackOf pool' after end') n ∙ stack-taken pool' next' end' depth (o .held) few) (sym used-is)
+                ∙ sym (walk-down (sightAt lent) (candidatesAt lent) (drawAfter lent) left new place rest (k .places) (stackOf pool next end (made new depth)) (stackOf pool' next' end' depth) draw
+                (sight-is on e) (opened-is ∙ stack-some pool' next' end' depth (o .held) few b) h)
+                ∙ k .same;
+          }
+
+    -- ---- a step back
+
+    module _ (choice : ℕ) (z : 0 < depth) (q : choice ≡ getD (lent .order) (depth - 1) 0) where
+      back-within : depth - 1 < lent .day .counts .choices
+      back-within = omega (arith, k .within)
+
+      pub back-known : Known (lent .day .mins) (lent .day .maxs) choice
+      back-known =
+          let c : choice < lent .day .counts .choices = rw q (below _ _ (t .ordered) (depth - 1) back-within) in
+          record { few = omega (arith, t .few-choices); min-there = omega (arith, t .mins-fit); max-there = omega (arith, t .maxs-fit) }
+
+      back-remains : (v : ℕ) → v ≡ getD (lent .day .maxs) choice 0 → remaining + v ≡ remainingAt lent (depth - 1)
+      back-remains v e =
+          let n : depth - 1 + 1 ≡ depth = omega arith in
+          omega (arith, k .remains, rw n at (remains-at lent (depth - 1) (omega (arith, back-within, permutation-length _ _ (t .ordered)))), e ∙ ap (λ (i : ℕ). getD (lent .day .maxs) i 0) q)
+
+      pub back-fits : (v : ℕ) → v ≡ getD (lent .day .maxs) choice 0 → ((i : ℕ) → getD (lent .day .maxs) i 0 ≤ 65535) → remaining + v < 2 ^ 32
+      back-fits v e f =
+          omega (arith, back-remains v e, remains-fits lent (depth - 1) f (omega (arith, t .few-choices, permutation-length _ _ (t .ordered))))
+
+      pub at-back : (v : ℕ) (state' : SearchState) → on ≡ sightFrom (lent .full) (lent .day) (state .decisions) depth → 0 < left → v ≡ getD (lent .day .maxs) choice 0
+          → getD end' depth 0 ≤ getD next' depth 0
+          → Moved (lent .day .mins) (lent .day .maxs) state choice 254 state'
+          → Standing lent whole (left - 1) false (depth - 1) r (remaining + v) state' pool' next' end'
+      at-back v state' e h ev b m = go (k .places) (k .at) (k .same) (k .decides) (sight-is on e) opened-is used-is
+        where
+          few : depth ≤ 64
+          few = omega (arith, k .within, t .few-choices)
+
+          n : made false (depth - 1) ≡ depth
+          n = made-false (depth - 1) ∙ omega arith
+
+          go : (places : List ℕ) → length places ≡ depth
+              → walk (sightAt lent) (candidatesAt lent) (drawAfter lent) left new places (stackOf pool next end (made new depth)) draw ≡ whole
+              → state .decisions ≡ decided (lent .order) places
+              → sightAt lent places ≡ on
+              → opened (candidatesAt lent) new places (stackOf pool next end (made new depth)) draw ≡ stackOf pool' next' end' (suc depth)
+              → used (drawAfter lent) new places draw ≡ r
+              → Standing lent whole (left - 1) false (depth - 1) r (remaining + v) state' pool' next' end'
+          go [] a w d s p u = absurd (omega arith)
+          go (x ∷ places) a w d s p u =
+              let a' : length places ≡ depth - 1 = omega arith in
+              record {
+                places = places;
+                at = a';
+                within = omega (arith, back-within);
+                old-within = λ y. back-within;
+                decides =
+                    m .decisions
+                    ∙ ap₂ (λ (l : List ℕ) (c : ℕ). set l c 254) d (q ∙ ap (λ (i : ℕ). getD (lent .order) i 0) (sym a'))
+                    ∙ step-back (lent .day .counts .choices) (lent .order) (t .few-choices) (below _ _ (t .ordered)) (apart-of lent t) x places (omega (arith, back-within));
+                counted = m .counted;
+                remains = back-remains v ev;
+                held = rw n (held-back pool' next' end' (suc depth) depth (omega arith) (o .held));
+                same =
+                    ap₂ (λ (l : List (List ℕ)) (y : ℕ). walk (sightAt lent) (candidatesAt lent) (drawAfter lent) (left - 1) false places l y)
+                    (ap (stackOf pool' next' end') n) (sym u)
+                    ∙ sym (walk-back (sightAt lent) (candidatesAt lent) (drawAfter lent) left new x places (stackOf pool next end (made new depth)) (stackOf pool' next' end' depth) draw
+                    s (p ∙ stack-none pool' next' end' depth (o .held) few b) h)
+                    ∙ w;
+              }
+
+-- ---- the pass begins
+
+pub at-start : (lent : Lent) (budget draw remaining : ℕ) (state : SearchState) (pool next end : List ℕ) → Taken lent
+    → state .decisions ≡ replicate 64 254 → state .«slot_min» ≡ replicate 24 0 → state .«slot_max» ≡ replicate 24 0 → state .sizes ≡ replicate 24 0
+    → remaining ≡ remainingAt lent 0 → length pool ≡ 1625 → length next ≡ 65 → length end ≡ 65
+    → Standing lent (passOf lent budget draw) budget true 0 draw remaining state pool next end
+unfolding passOf
+at-start lent budget draw remaining state pool next end t d a b c m p n e =
+    record {
+      places = [];
+      at = refl;
+      within = omega arith;
+      old-within = λ z. absurd (false≢true (sym z));
+      decides = d ∙ sym (decided-none (lent .order));
+      counted =
+          record {
+            entries = ap length d ∙ length-replicate {A = ℕ} 64 254;
+            min-sums = a ∙ sym (sums-listed (lent .day .mins) (state .decisions) ∙ ap (listed (λ k. getD (lent .day .mins) k 0)) d ∙ nothing-listed (λ k. getD (lent .day .mins) k 0) 64);
+            max-sums = b ∙ sym (sums-listed (lent .day .maxs) (state .decisions) ∙ ap (listed (λ k. getD (lent .day .maxs) k 0)) d ∙ nothing-listed (λ k. getD (lent .day .maxs) k 0) 64);
+            counts = c ∙ sym (counts-listed (state .decisions) ∙ ap (listed (λ k. 1)) d ∙ nothing-listed (λ k. 1) 64);
+          };
+      remains = m;
+      held =
+          record {
+            pool-length = p;
+            next-length = n;
+            end-length = e;
+            begins = λ i h. absurd (omega (arith, rw (made-none) at h));
+            rises = λ i h. absurd (omega (arith, rw (made-none) at h));
+            ends = λ i h. absurd (omega (arith, rw (made-none) at h));
+          };
+      same =
+          ap (λ (l : List (List ℕ)). walk (sightAt lent) (candidatesAt lent) (drawAfter lent) budget true [] l draw) (ap (stackOf pool next end) made-none ∙ stack-empty pool next end)
+          ∙ sym (pass-walk (sightAt lent) (candidatesAt lent) (drawAfter lent) budget draw);
+    }

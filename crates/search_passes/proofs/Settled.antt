@@ -1,0 +1,133 @@
+-- What a call's answer says: found is a plan, none says what a pass without a plan at the last limit says, and turns run out only under so many for each pass.
+use mathlib.Core.Path.{_≡_, refl, sym, _∙_}
+use mathlib.Core.Bool.{Bool, true, false}
+use mathlib.Core.List.{List, [], _∷_}
+use Prim.Native.Nat.{ℕ, suc, _+_, _-_, _*_, _≤_, _<_, min}
+use native.Mathlib.Nat.{suc-mul}
+use native.Mathlib.Omega.{arith}
+use borrow.Author.Tests.{leb-true, leb-false}
+use lib.Dec.{leb}
+use lib.ListN.{length}
+use Rattle.search_walk.specs.Walk.{Out, hit, dry, cut}
+use Rattle.search_passes.specs.Passes.{Ending, found, none, out, passesFrom}
+use Rattle.search_passes.proofs.Induction.{Kept, passes-ind}
+
+-- the limit of the last pass that a call may make
+unfoldable pub lastLimit : ℕ → List ℕ → ℕ
+lastLimit limit [] = limit
+lastLimit limit (next ∷ above) = lastLimit next above
+
+-- a pass that had enough turns, p of them, wasn't cut and spent no more
+abbrev pub Enough : ℕ → ℕ → Out → Type 0
+Enough p turns (hit left places drawn) = turns ≤ left + p
+Enough p turns (dry left drawn) = turns ≤ left + p
+Enough p turns (cut drawn) = ⊥
+
+-- what each answer says: found of its limit, pass and places; none; and out of turns
+abbrev pub Says : (ℕ → ℕ → List ℕ → Type 0) → Type 0 → Type 0 → Ending → Type 0
+Says Plan None Short (found left pass limit places) = Plan limit pass places
+Says Plan None Short (none left pass limit) = None
+Says Plan None Short (out pass limit) = Short
+
+module _ (passAt : ℕ → ℕ → ℕ → ℕ → Out) (budget : ℕ)
+    (Plan : ℕ → ℕ → List ℕ → Type 0)
+    (sound : (limit pass turns draw left : ℕ) (places : List ℕ) (draw′ : ℕ) → passAt limit pass turns draw ≡ hit left places draw′ → Plan limit pass places)
+    (last : ℕ) (None : Type 0)
+    (dry-says : (pass turns draw left draw′ : ℕ) → passAt last pass turns draw ≡ dry left draw′ → None) where
+  -- the levels left lead to the last limit
+  said-kept : Kept passAt budget (λ above limit pass left draw. lastLimit limit above ≡ last) (Says Plan None (Unit {0}))
+  unfolding lastLimit
+  said-kept =
+      record {
+        last-hit = λ limit pass left draw spared places draw′ s e. sound limit pass left draw spared places draw′ e;
+        last-dry = λ limit pass left draw spared draw′ s e. dry-says pass left draw spared draw′ (rw (sym s) e);
+        last-cut = λ limit pass left draw draw′ s e. tt;
+        hits = λ next above limit pass left draw spared places draw′ s e. sound limit pass (min left budget) draw spared places draw′ e;
+        goes-on = λ next above limit pass left draw spared draw′ s e. s;
+        runs-out = λ next above limit pass left draw draw′ s e h. tt;
+        is-cut = λ next above limit pass left draw draw′ s e h. s;
+      }
+
+  -- on any budgets: a plan or a none is true
+  pub said : (above : List ℕ) (limit pass left draw : ℕ) → lastLimit limit above ≡ last → Says Plan None (Unit {0}) (passesFrom passAt budget above limit pass left draw)
+  said = passes-ind passAt budget (λ above limit pass left draw. lastLimit limit above ≡ last) (Says Plan None (Unit {0})) said-kept
+
+  -- each by itself
+  pub found-says : (above : List ℕ) (limit pass left draw left′ pass′ limit′ : ℕ) (places : List ℕ) → lastLimit limit above ≡ last
+      → passesFrom passAt budget above limit pass left draw ≡ found left′ pass′ limit′ places → Plan limit′ pass′ places
+  found-says above limit pass left draw left′ pass′ limit′ places s e = rw e at (said above limit pass left draw s)
+
+  pub none-says : (above : List ℕ) (limit pass left draw left′ pass′ limit′ : ℕ) → lastLimit limit above ≡ last
+      → passesFrom passAt budget above limit pass left draw ≡ none left′ pass′ limit′ → None
+  none-says above limit pass left draw left′ pass′ limit′ s e = rw e at (said above limit pass left draw s)
+
+-- a call that settles, and spends at most so many of its turns
+abbrev pub Settles : ℕ → ℕ → Ending → Type 0
+Settles total most (found left pass limit places) = total ≤ left + most
+Settles total most (none left pass limit) = total ≤ left + most
+Settles total most (out pass limit) = ⊥
+
+module _ (passAt : ℕ → ℕ → ℕ → ℕ → Out) (budget p : ℕ) (enough : (limit pass turns draw : ℕ) → p ≤ turns → Enough p turns (passAt limit pass turns draw)) where
+  -- a pass with p turns or more that ends so
+  after-hit : {limit pass turns draw spared : ℕ} {places : List ℕ} {draw′ : ℕ} → p ≤ turns → passAt limit pass turns draw ≡ hit spared places draw′ → turns ≤ spared + p
+  after-hit {limit} {pass} {turns} {draw} h e = rw e at (enough limit pass turns draw h)
+
+  after-dry : {limit pass turns draw spared draw′ : ℕ} → p ≤ turns → passAt limit pass turns draw ≡ dry spared draw′ → turns ≤ spared + p
+  after-dry {limit} {pass} {turns} {draw} h e = rw e at (enough limit pass turns draw h)
+
+  -- a pass that was cut had fewer
+  after-cut : {limit pass turns draw draw′ : ℕ} → passAt limit pass turns draw ≡ cut draw′ → turns < p
+  after-cut {limit} {pass} {turns} {draw} e = go (leb p turns) refl
+    where
+      go : (b : Bool) → leb p turns ≡ b → turns < p
+      go true t = absurd (rw e at (enough limit pass turns draw (leb-true _ _ t)))
+      go false t = leb-false _ _ t
+
+  -- whether it had p turns or not, a pass below the last level spends at most p of those left
+  spent-hit : {limit pass left draw spared : ℕ} {places : List ℕ} {draw′ : ℕ} → passAt limit pass (min left budget) draw ≡ hit spared places draw′ → left ≤ spared + (left - budget) + p
+  spent-hit {limit} {pass} {left} {draw} {spared} e = go (leb p (min left budget)) refl
+    where
+      go : (b : Bool) → leb p (min left budget) ≡ b → left ≤ spared + (left - budget) + p
+      go true t = let f : min left budget ≤ spared + p = after-hit (leb-true _ _ t) e in omega arith
+      go false t = let f : min left budget < p = leb-false _ _ t in omega arith
+
+  spent-dry : {limit pass left draw spared draw′ : ℕ} → passAt limit pass (min left budget) draw ≡ dry spared draw′ → left ≤ spared + (left - budget) + p
+  spent-dry {limit} {pass} {left} {draw} {spared} e = go (leb p (min left budget)) refl
+    where
+      go : (b : Bool) → leb p (min left budget) ≡ b → left ≤ spared + (left - budget) + p
+      go true t = let f : min left budget ≤ spared + p = after-dry (leb-true _ _ t) e in omega arith
+      go false t = let f : min left budget < p = leb-false _ _ t in omega arith
+
+  module _ (total most : ℕ) (h : most ≤ total) where
+    -- p turns for each pass left, beside those that may be spent
+    abbrev Spares : List ℕ → ℕ → Type 0
+    Spares above left = total + suc (length above) * p ≤ left + most
+
+    spares-next : (next : ℕ) (above : List ℕ) (left left′ : ℕ) → Spares (next ∷ above) left → left ≤ left′ + p → Spares above left′
+    spares-next next above left left′ s e = omega (arith, s, e, suc-mul (suc (length above)) p)
+
+    settled-kept : Kept passAt budget (λ above limit pass left draw. Spares above left) (Settles total most)
+    settled-kept =
+        record {
+          last-hit = λ limit pass left draw spared places draw′ s e. let f : left ≤ spared + p = after-hit (omega (arith, s, suc-mul 0 p)) e in omega (arith, s, suc-mul 0 p);
+          last-dry = λ limit pass left draw spared draw′ s e. let f : left ≤ spared + p = after-dry (omega (arith, s, suc-mul 0 p)) e in omega (arith, s, suc-mul 0 p);
+          last-cut = λ limit pass left draw draw′ s e. absurd (omega (arith, s, suc-mul 0 p, after-cut e));
+          hits = λ next above limit pass left draw spared places draw′ s e. omega (arith, spares-next next above left (spared + (left - budget)) s (spent-hit e));
+          goes-on = λ next above limit pass left draw spared draw′ s e. spares-next next above left (spared + (left - budget)) s (spent-dry e);
+          runs-out = λ next above limit pass left draw draw′ s e k. absurd (omega (arith, spares-next next above left (left - p) s (omega arith), after-cut e, suc-mul (length above) p));
+          is-cut = λ next above limit pass left draw draw′ s e k. spares-next next above left (left - budget) s (omega (arith, after-cut e));
+        }
+
+  -- with p turns for each pass that it may make, a call settles, and spends no more
+  pub settled : (above : List ℕ) (limit pass left draw : ℕ) → suc (length above) * p ≤ left → Settles left (suc (length above) * p) (passesFrom passAt budget above limit pass left draw)
+  settled above limit pass left draw h =
+      passes-ind passAt budget (λ higher limit pass now draw. Spares left (suc (length above) * p) h higher now) (Settles left (suc (length above) * p)) (settled-kept left (suc (length above) * p) h)
+      above limit pass left draw (omega arith)
+
+  -- so turns run out only under so many
+  pub out-short : (above : List ℕ) (limit pass left draw pass′ limit′ : ℕ) → passesFrom passAt budget above limit pass left draw ≡ out pass′ limit′ → left < suc (length above) * p
+  out-short above limit pass left draw pass′ limit′ e = go (leb (suc (length above) * p) left) refl
+    where
+      go : (b : Bool) → leb (suc (length above) * p) left ≡ b → left < suc (length above) * p
+      go true t = absurd (rw e at (settled above limit pass left draw (leb-true _ _ t)))
+      go false t = leb-false _ _ t

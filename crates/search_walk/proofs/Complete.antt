@@ -1,0 +1,113 @@
+-- A walk that ends without a plan has passed no good plan by.
+use mathlib.Core.Path.{_≡_}
+use mathlib.Core.Bool.{Bool, true, false}
+use mathlib.Core.List.{List, [], _∷_, List·Memᴰ, List·Memᴰ·cases-cons, List·Memᴰ·not-nil}
+use mathlib.Core.Logic.{_⊎_, inl, inr, ⊎-elim}
+use Prim.Native.Nat.{ℕ}
+use Rattle.search_walk.specs.Walk.{Sight, over, on, Out, hit, dry, cut, opened, pass}
+use Rattle.search_walk.proofs.WalkLaws.{pass-walk}
+use Rattle.search_walk.proofs.Induction.{Kept, walk-ind}
+
+-- plans of any type, and that a plan goes on from the places decided
+module _ {Q : Type 0} (GoesOn : List ℕ → Q → Type 0) where
+  -- the plan goes on with one of these candidates
+  abbrev pub Next : List ℕ → List ℕ → Q → Type 0
+  Next bucket places plan = (place : ℕ) × List·Memᴰ place bucket × GoesOn (place ∷ places) plan
+
+  -- it goes on with a candidate left at this depth, or at a shallower one
+  abbrev pub Ahead : List ℕ → List (List ℕ) → Q → Type 0
+  Ahead places [] plan = ⊥
+  Ahead [] (bucket ∷ candidates) plan = Next bucket [] plan
+  Ahead (last ∷ places) (bucket ∷ candidates) plan = Next bucket (last ∷ places) plan ⊎ Ahead places candidates plan
+
+  -- it goes on with a candidate left at a shallower depth
+  abbrev pub Shallower : List ℕ → List (List ℕ) → Q → Type 0
+  Shallower [] candidates plan = ⊥
+  Shallower (last ∷ places) candidates plan = Ahead places candidates plan
+
+  -- the walk from a state on can still meet the plan
+  abbrev pub Meets : Bool → List ℕ → List (List ℕ) → Q → Type 0
+  Meets true places candidates plan = GoesOn places plan ⊎ Shallower places candidates plan
+  Meets false places candidates plan = Ahead places candidates plan
+
+  -- it goes on from this depth
+  ahead-next : (bucket places : List ℕ) (candidates : List (List ℕ)) (plan : Q) → Next bucket places plan → Ahead places (bucket ∷ candidates) plan
+  ahead-next bucket [] candidates plan h = h
+  ahead-next bucket (last ∷ places) candidates plan h = inl h
+
+  -- or from a shallower depth
+  ahead-shallower : (bucket places : List ℕ) (candidates : List (List ℕ)) (plan : Q) → Shallower places candidates plan → Ahead places (bucket ∷ candidates) plan
+  ahead-shallower bucket [] candidates plan h = absurd h
+  ahead-shallower bucket (last ∷ places) candidates plan h = inr h
+
+  -- the two told apart
+  ahead-cases : (bucket places : List ℕ) (candidates : List (List ℕ)) (plan : Q) → Ahead places (bucket ∷ candidates) plan → Next bucket places plan ⊎ Shallower places candidates plan
+  ahead-cases bucket [] candidates plan h = inl h
+  ahead-cases bucket (last ∷ places) candidates plan h = h
+
+  -- no candidate left at this depth
+  ahead-empty : (places : List ℕ) (candidates : List (List ℕ)) (plan : Q) → Ahead places ([] ∷ candidates) plan → Shallower places candidates plan
+  ahead-empty places candidates plan h = ⊎-elim (λ n. absurd (List·Memᴰ·not-nil (n .1))) (λ s. s) (ahead-cases [] places candidates plan h)
+
+  -- the first candidate taken
+  ahead-taken : (place : ℕ) (rest places : List ℕ) (candidates : List (List ℕ)) (plan : Q) → Ahead places ((place ∷ rest) ∷ candidates) plan → Meets true (place ∷ places) (rest ∷ candidates) plan
+  ahead-taken place rest places candidates plan h =
+      ⊎-elim
+      (λ n. ⊎-elim (λ e. inl (rw e at (n .2))) (λ m. inr (ahead-next rest places candidates plan (n .0, m, n .2))) (List·Memᴰ·cases-cons (n .1)))
+      (λ s. inr (ahead-shallower rest places candidates plan s))
+      (ahead-cases (place ∷ rest) places candidates plan h)
+
+-- no good plan goes on from no place decided
+abbrev pub NoneGood : {Q : Type 0} → (Q → Type 0) → (List ℕ → Q → Type 0) → Type 0
+NoneGood Good GoesOn = (plan : _) → Good plan → GoesOn [] plan → ⊥
+
+-- where a walk ends without a plan, this is so
+abbrev DryNone : Type 0 → Out → Type 0
+DryNone None (hit left places drawn) = Unit {0}
+DryNone None (dry left drawn) = None
+DryNone None (cut drawn) = Unit {0}
+
+module _ (sight : List ℕ → Sight) (bucket : List ℕ → ℕ → List ℕ) (draws : List ℕ → ℕ → ℕ)
+    {Q : Type 0} (Good : Q → Type 0) (GoesOn : List ℕ → Q → Type 0)
+    (grow : (places : List ℕ) (drawn : ℕ) → sight places ≡ on → (plan : Q) → Good plan → GoesOn places plan → Next GoesOn (bucket places drawn) places plan)
+    (lone : (places : List ℕ) → sight places ≡ over → (plan : Q) → Good plan → GoesOn [] plan → ⊥) where
+  -- every good plan is still met
+  abbrev AllMet : ℕ → Bool → List ℕ → List (List ℕ) → ℕ → Type 0
+  AllMet left new places candidates drawn = (plan : Q) → Good plan → GoesOn [] plan → Meets GoesOn new places candidates plan
+
+  -- once the candidates of a new depth are made it goes on with one of them
+  met-opened : (new : Bool) (places : List ℕ) (candidates : List (List ℕ)) (drawn : ℕ) → sight places ≡ on → (plan : Q) → Good plan
+      → Meets GoesOn new places candidates plan → Ahead GoesOn places (opened bucket new places candidates drawn) plan
+  unfolding opened
+  met-opened true places candidates drawn e plan good m =
+      ⊎-elim (λ g. ahead-next GoesOn (bucket places drawn) places candidates plan (grow places drawn e plan good g))
+      (λ s. ahead-shallower GoesOn (bucket places drawn) places candidates plan s) m
+  met-opened false places candidates drawn e plan good m = m
+
+  -- the same where it is known what they are
+  met-made : (new : Bool) (places : List ℕ) (candidates made : List (List ℕ)) (drawn : ℕ) → sight places ≡ on → opened bucket new places candidates drawn ≡ made
+      → AllMet 0 new places candidates drawn → (plan : Q) → Good plan → GoesOn [] plan → Ahead GoesOn places made plan
+  met-made new places candidates made drawn e o f plan good begins = rw o at (met-opened new places candidates drawn e plan good (f plan good begins))
+
+  -- each step keeps every good plan ahead
+  met-kept : Kept sight bucket draws AllMet (DryNone (NoneGood Good GoesOn))
+  met-kept =
+      record {
+        at-goal = λ left new places candidates drawn f e. tt;
+        at-over = λ left new places candidates drawn f e. lone places e;
+        at-cut = λ new places candidates drawn f e. tt;
+        at-none = λ left new places candidates drawn f e o. met-made new places candidates [] drawn e o f;
+        at-close = λ left new candidates shallower drawn f e o plan good begins.
+            ahead-empty GoesOn [] shallower plan (met-made new [] candidates ([] ∷ shallower) drawn e o f plan good begins);
+        back = λ left new last places candidates shallower drawn f e o plan good begins.
+            ahead-empty GoesOn (last ∷ places) shallower plan (met-made new (last ∷ places) candidates ([] ∷ shallower) drawn e o f plan good begins);
+        down = λ left new place rest places candidates shallower drawn f e o plan good begins.
+            ahead-taken GoesOn place rest places shallower plan (met-made new places candidates ((place ∷ rest) ∷ shallower) drawn e o f plan good begins);
+      }
+
+  -- a pass that ends without a plan: there is no good one
+  pub dry-none : (budget drawn left drawn′ : ℕ) → pass sight bucket draws budget drawn ≡ dry left drawn′ → NoneGood Good GoesOn
+  dry-none budget drawn left drawn′ e =
+      let h : DryNone (NoneGood Good GoesOn) (pass sight bucket draws budget drawn) =
+      rw (pass-walk sight bucket draws budget drawn) (walk-ind sight bucket draws AllMet (DryNone (NoneGood Good GoesOn)) met-kept budget true [] [] drawn (λ plan good begins. inl begins)) in
+      rw e at h

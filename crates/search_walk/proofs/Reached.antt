@@ -1,0 +1,112 @@
+-- What every place of a bucket keeps holds of all the places that a walk comes to.
+use mathlib.Core.Path.{_≡_, refl}
+use mathlib.Core.Bool.{Bool, true, false}
+use mathlib.Core.List.{List, [], _∷_, List·Memᴰ, List·Memᴰ·head, List·Memᴰ·tail}
+use Prim.Native.Nat.{ℕ}
+use Rattle.search_walk.specs.Walk.{Sight, on, hit, opened, pass}
+use Rattle.search_walk.proofs.WalkLaws.{pass-walk}
+use Rattle.search_walk.proofs.Induction.{Kept, walk-ind}
+use Rattle.search_walk.proofs.Sound.{Found}
+
+-- a property of the places decided
+module _ (Fits : List ℕ → Type 0) where
+  -- each candidate of a depth keeps it
+  abbrev pub Each : List ℕ → List ℕ → Type 0
+  Each places bucket = (place : ℕ) → List·Memᴰ place bucket → Fits (place ∷ places)
+
+  -- the places have it, and each candidate left at any depth keeps it
+  abbrev pub Ready : List ℕ → List (List ℕ) → Type 0
+  Ready places [] = Fits places
+  Ready [] (bucket ∷ candidates) = Fits [] × Each [] bucket
+  Ready (last ∷ places) (bucket ∷ candidates) = Fits (last ∷ places) × Each (last ∷ places) bucket × Ready places candidates
+
+  -- the same of the shallower depths
+  abbrev pub ShallowerReady : List ℕ → List (List ℕ) → Type 0
+  ShallowerReady [] candidates = Unit {0}
+  ShallowerReady (last ∷ places) candidates = Ready places candidates
+
+  -- the same of a state
+  abbrev pub Reached : Bool → List ℕ → List (List ℕ) → Type 0
+  Reached true places candidates = Fits places × ShallowerReady places candidates
+  Reached false places candidates = Ready places candidates
+
+  -- one depth put on the shallower ones
+  ready-put : (bucket places : List ℕ) (candidates : List (List ℕ)) → Fits places → Each places bucket → ShallowerReady places candidates → Ready places (bucket ∷ candidates)
+  ready-put bucket [] candidates f e s = (f, e)
+  ready-put bucket (last ∷ places) candidates f e s = (f, e, s)
+
+  -- the places have it
+  ready-fits : (places : List ℕ) (candidates : List (List ℕ)) → Ready places candidates → Fits places
+  ready-fits places [] r = r
+  ready-fits [] (bucket ∷ candidates) r = r .0
+  ready-fits (last ∷ places) (bucket ∷ candidates) r = r .0
+
+  -- so has each candidate of this depth
+  ready-each : (bucket places : List ℕ) (candidates : List (List ℕ)) → Ready places (bucket ∷ candidates) → Each places bucket
+  ready-each bucket [] candidates r = r .1
+  ready-each bucket (last ∷ places) candidates r = r .1
+
+  -- and the shallower depths
+  ready-shallower : (bucket places : List ℕ) (candidates : List (List ℕ)) → Ready places (bucket ∷ candidates) → ShallowerReady places candidates
+  ready-shallower bucket [] candidates r = tt
+  ready-shallower bucket (last ∷ places) candidates r = r .2
+
+  -- the places of a state have it
+  pub reached-fits : (new : Bool) (places : List ℕ) (candidates : List (List ℕ)) → Reached new places candidates → Fits places
+  reached-fits true places candidates r = r .0
+  reached-fits false places candidates r = ready-fits places candidates r
+
+  -- the first candidate taken
+  ready-down : (place : ℕ) (rest places : List ℕ) (shallower : List (List ℕ)) → Ready places ((place ∷ rest) ∷ shallower) → Reached true (place ∷ places) (rest ∷ shallower)
+  ready-down place rest places shallower r = (
+    ready-each (place ∷ rest) places shallower r place (List·Memᴰ·head refl),
+    ready-put rest places shallower (ready-fits places ((place ∷ rest) ∷ shallower) r)
+        (λ other m. ready-each (place ∷ rest) places shallower r other (List·Memᴰ·tail m)) (ready-shallower (place ∷ rest) places shallower r),
+  )
+
+module _ (sight : List ℕ → Sight) (bucket : List ℕ → ℕ → List ℕ) (draws : List ℕ → ℕ → ℕ) (Fits : List ℕ → Type 0)
+    (begins : Fits []) (grows : (places : List ℕ) (drawn : ℕ) → sight places ≡ on → Fits places → Each Fits places (bucket places drawn)) where
+  -- the candidates of a new depth made
+  ready-opened : (new : Bool) (places : List ℕ) (candidates : List (List ℕ)) (drawn : ℕ) → sight places ≡ on → Reached Fits new places candidates
+      → Ready Fits places (opened bucket new places candidates drawn)
+  unfolding opened
+  ready-opened true places candidates drawn e r = ready-put Fits (bucket places drawn) places candidates (r .0) (grows places drawn e (r .0)) (r .1)
+  ready-opened false places candidates drawn e r = r
+
+  -- the same where it is known what they are
+  ready-is : (new : Bool) (places : List ℕ) (candidates made : List (List ℕ)) (drawn : ℕ) → sight places ≡ on → opened bucket new places candidates drawn ≡ made
+      → Reached Fits new places candidates → Ready Fits places made
+  ready-is new places candidates made drawn e o r = rw o at (ready-opened new places candidates drawn e r)
+
+  -- a step back keeps it
+  pub reached-back : (new : Bool) (last : ℕ) (places : List ℕ) (candidates shallower : List (List ℕ)) (drawn : ℕ) → sight (last ∷ places) ≡ on
+      → opened bucket new (last ∷ places) candidates drawn ≡ [] ∷ shallower → Reached Fits new (last ∷ places) candidates → Reached Fits false places shallower
+  reached-back new last places candidates shallower drawn e o r =
+      ready-shallower Fits [] (last ∷ places) shallower (ready-is new (last ∷ places) candidates ([] ∷ shallower) drawn e o r)
+
+  -- and a step down
+  pub reached-down : (new : Bool) (place : ℕ) (rest places : List ℕ) (candidates shallower : List (List ℕ)) (drawn : ℕ) → sight places ≡ on
+      → opened bucket new places candidates drawn ≡ (place ∷ rest) ∷ shallower → Reached Fits new places candidates → Reached Fits true (place ∷ places) (rest ∷ shallower)
+  reached-down new place rest places candidates shallower drawn e o r =
+      ready-down Fits place rest places shallower (ready-is new places candidates ((place ∷ rest) ∷ shallower) drawn e o r)
+
+  -- step by step
+  reached-kept : Kept sight bucket draws (λ left new places candidates drawn. Reached Fits new places candidates) (Found Fits)
+  reached-kept =
+      record {
+        at-goal = λ left new places candidates drawn f e. reached-fits Fits new places candidates f;
+        at-over = λ left new places candidates drawn f e. tt;
+        at-cut = λ new places candidates drawn f e. tt;
+        at-none = λ left new places candidates drawn f e o. tt;
+        at-close = λ left new candidates shallower drawn f e o. tt;
+        back = λ left new last places candidates shallower drawn f e o. reached-back new last places candidates shallower drawn e o f;
+        down = λ left new place rest places candidates shallower drawn f e o. reached-down new place rest places candidates shallower drawn e o f;
+      }
+
+  -- the places of a plan found have it
+  pub hit-fits : (budget drawn left : ℕ) (places : List ℕ) (drawn′ : ℕ) → pass sight bucket draws budget drawn ≡ hit left places drawn′ → Fits places
+  hit-fits budget drawn left places drawn′ e =
+      let h : Found Fits (pass sight bucket draws budget drawn) =
+      rw (pass-walk sight bucket draws budget drawn)
+      (walk-ind sight bucket draws (λ left new places candidates drawn. Reached Fits new places candidates) (Found Fits) reached-kept budget true [] [] drawn (begins, tt)) in
+      rw e at h

@@ -1,0 +1,73 @@
+-- Two machines that agree at all the places that a walk comes to end alike.
+use mathlib.Core.Path.{_≡_, refl, sym, _∙_, ap}
+use mathlib.Core.Bool.{Bool, true, false}
+use mathlib.Core.List.{List, [], _∷_}
+use Prim.Native.Nat.{ℕ}
+use Rattle.search_walk.specs.Walk.{Sight, on, Out, dry, opened, used, walk, pass}
+use Rattle.search_walk.proofs.WalkLaws.{walk-goal, walk-over, walk-cut, turn-close, turn-back, turn-down, turn-none, pass-walk}
+use Rattle.search_walk.proofs.Induction.{Kept, walk-ind}
+use Rattle.search_walk.proofs.Reached.{Each, Reached, reached-fits, reached-back, reached-down}
+
+module _ (sight sight′ : List ℕ → Sight) (bucket bucket′ : List ℕ → ℕ → List ℕ) (draws draws′ : List ℕ → ℕ → ℕ) (Fits : List ℕ → Type 0)
+    (begins : Fits []) (grows : (places : List ℕ) (drawn : ℕ) → sight places ≡ on → Fits places → Each Fits places (bucket places drawn))
+    (sights : (places : List ℕ) → Fits places → sight′ places ≡ sight places)
+    (buckets : (places : List ℕ) (drawn : ℕ) → sight places ≡ on → Fits places → bucket′ places drawn ≡ bucket places drawn)
+    (counts : (places : List ℕ) (drawn : ℕ) → sight places ≡ on → Fits places → draws′ places drawn ≡ draws places drawn) where
+  -- the same candidates are made
+  opened-same : (new : Bool) (places : List ℕ) (candidates : List (List ℕ)) (drawn : ℕ) → sight places ≡ on → Fits places
+      → opened bucket′ new places candidates drawn ≡ opened bucket new places candidates drawn
+  unfolding opened
+  opened-same true places candidates drawn e f = ap (λ (made : List ℕ). made ∷ candidates) (buckets places drawn e f)
+  opened-same false places candidates drawn e f = refl
+
+  -- and the same draws used
+  used-same : (new : Bool) (places : List ℕ) (drawn : ℕ) → sight places ≡ on → Fits places → used draws′ new places drawn ≡ used draws new places drawn
+  unfolding used
+  used-same true places drawn e f = counts places drawn e f
+  used-same false places drawn e f = refl
+
+  -- the other machine ends so from here on, and these places are reached
+  abbrev SoFrom : Out → ℕ → Bool → List ℕ → List (List ℕ) → ℕ → Type 0
+  SoFrom out left new places candidates drawn = Reached Fits new places candidates × (walk sight′ bucket′ draws′ left new places candidates drawn ≡ out)
+
+  -- step by step
+  same-kept : (out : Out) → Kept sight bucket draws (SoFrom out) (λ mine. out ≡ mine)
+  same-kept out =
+      record {
+        at-goal = λ left new places candidates drawn f e.
+            sym (f .1) ∙ walk-goal sight′ bucket′ draws′ left new places candidates drawn (sights places (reached-fits Fits new places candidates (f .0)) ∙ e);
+        at-over = λ left new places candidates drawn f e.
+            sym (f .1) ∙ walk-over sight′ bucket′ draws′ left new places candidates drawn (sights places (reached-fits Fits new places candidates (f .0)) ∙ e);
+        at-cut = λ new places candidates drawn f e.
+            sym (f .1) ∙ walk-cut sight′ bucket′ draws′ new places candidates drawn (sights places (reached-fits Fits new places candidates (f .0)) ∙ e);
+        at-none = λ left new places candidates drawn f e o.
+            let h = reached-fits Fits new places candidates (f .0) in
+            sym (f .1) ∙ turn-none sight′ bucket′ draws′ left new places candidates drawn (sights places h ∙ e) (opened-same new places candidates drawn e h ∙ o)
+            ∙ ap (dry left) (used-same new places drawn e h);
+        at-close = λ left new candidates shallower drawn f e o.
+            let h = reached-fits Fits new [] candidates (f .0) in
+            sym (f .1) ∙ turn-close sight′ bucket′ draws′ left new candidates shallower drawn (sights [] h ∙ e) (opened-same new [] candidates drawn e h ∙ o)
+            ∙ ap (dry left) (used-same new [] drawn e h);
+        back = λ left new last places candidates shallower drawn f e o.
+            let h = reached-fits Fits new (last ∷ places) candidates (f .0) in (
+              reached-back sight bucket draws Fits begins grows new last places candidates shallower drawn e o (f .0),
+              ap (walk sight′ bucket′ draws′ left false places shallower) (sym (used-same new (last ∷ places) drawn e h))
+                  ∙ sym (turn-back sight′ bucket′ draws′ left new last places candidates shallower drawn (sights (last ∷ places) h ∙ e) (opened-same new (last ∷ places) candidates drawn e h ∙ o))
+                  ∙ f .1,
+            );
+        down = λ left new place rest places candidates shallower drawn f e o.
+            let h = reached-fits Fits new places candidates (f .0) in (
+              reached-down sight bucket draws Fits begins grows new place rest places candidates shallower drawn e o (f .0),
+              ap (walk sight′ bucket′ draws′ left true (place ∷ places) (rest ∷ shallower)) (sym (used-same new places drawn e h))
+                  ∙ sym (turn-down sight′ bucket′ draws′ left new place rest places candidates shallower drawn (sights places h ∙ e) (opened-same new places candidates drawn e h ∙ o))
+                  ∙ f .1,
+            );
+      }
+
+  -- the passes end alike
+  pub same-pass : (budget drawn : ℕ) → pass sight′ bucket′ draws′ budget drawn ≡ pass sight bucket draws budget drawn
+  same-pass budget drawn =
+      let out = pass sight′ bucket′ draws′ budget drawn in
+      rw (pass-walk sight bucket draws budget drawn)
+      (walk-ind sight bucket draws (SoFrom out) (λ mine. out ≡ mine) (same-kept out) budget true [] [] drawn
+      ((begins, tt), sym (pass-walk sight′ bucket′ draws′ budget drawn)))

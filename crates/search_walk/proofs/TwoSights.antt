@@ -1,0 +1,113 @@
+-- Two searches that differ only in where a pass is over: where the former finds a plan or closes, so does the latter, in the same turns.
+-- As the Rust a failed check ends the pass; in the full search it goes on (02, request 13).
+use mathlib.Core.Path.{_≡_, sym, _∙_}
+use mathlib.Core.Bool.{Bool, true, false≢true}
+use mathlib.Core.List.{List, [], _∷_}
+use Prim.Native.Nat.{ℕ}
+use Rattle.search_walk.specs.Walk.{Sight, goal, on, Out, hit, dry, cut, walk, pass}
+use Rattle.search_walk.specs.Closing.{walkCloses, passCloses}
+use Rattle.search_walk.proofs.WalkLaws.{walk-goal, walk-cut, turn-close, turn-back, turn-down, turn-none, pass-walk}
+use Rattle.search_walk.proofs.ClosingLaws.{closes-goal, closes-over, closes-cut, closes-close, closes-none, closes-back, closes-down, pass-closes}
+use Rattle.search_walk.proofs.Induction.{Kept, walk-ind}
+
+-- what the latter's end is if the former's is known, and isn't dry
+abbrev SameEnd : Out → Out → Type 0
+SameEnd latter (hit left places drawn) = latter ≡ hit left places drawn
+SameEnd latter (dry left drawn) = Unit {0}
+SameEnd latter (cut drawn) = latter ≡ cut drawn
+
+-- and if the former closes
+abbrev SameClose : Out → Bool → Out → Type 0
+SameClose latter closed (hit left places drawn) = ⊥
+SameClose latter closed (dry left drawn) = (latter ≡ dry left drawn) × (closed ≡ true)
+SameClose latter closed (cut drawn) = ⊥
+
+-- then both ends are one
+same-close : (latter : Out) (closed : Bool) (out : Out) → SameClose latter closed out → (latter ≡ out) × (closed ≡ true)
+same-close latter closed (hit left places drawn) h = absurd h
+same-close latter closed (dry left drawn) h = h
+same-close latter closed (cut drawn) h = absurd h
+
+module _ (former latter : List ℕ → Sight) (bucket : List ℕ → ℕ → List ℕ) (draws : List ℕ → ℕ → ℕ)
+    (goals : (places : List ℕ) → former places ≡ goal → latter places ≡ goal)
+    (ons : (places : List ℕ) → former places ≡ on → latter places ≡ on) where
+  -- ---- a plan, or a cut
+
+  -- both walks take the same steps
+  same-kept : (out : Out) → Kept former bucket draws (λ left new places candidates drawn. walk latter bucket draws left new places candidates drawn ≡ out) (SameEnd out)
+  same-kept out =
+      record {
+        at-goal = λ left new places candidates drawn f e. sym f ∙ walk-goal latter bucket draws left new places candidates drawn (goals places e);
+        at-over = λ left new places candidates drawn f e. tt;
+        at-cut = λ new places candidates drawn f e. sym f ∙ walk-cut latter bucket draws new places candidates drawn (ons places e);
+        at-none = λ left new places candidates drawn f e o. tt;
+        at-close = λ left new candidates shallower drawn f e o. tt;
+        back = λ left new last places candidates shallower drawn f e o.
+            sym (turn-back latter bucket draws left new last places candidates shallower drawn (ons (last ∷ places) e) o) ∙ f;
+        down = λ left new place rest places candidates shallower drawn f e o.
+            sym (turn-down latter bucket draws left new place rest places candidates shallower drawn (ons places e) o) ∙ f;
+      }
+
+  -- both passes
+  pass-same : (budget drawn : ℕ) → SameEnd (pass latter bucket draws budget drawn) (pass former bucket draws budget drawn)
+  pass-same budget drawn =
+      let out = pass latter bucket draws budget drawn in
+      rw (pass-walk former bucket draws budget drawn)
+      (walk-ind former bucket draws (λ left new places candidates now. walk latter bucket draws left new places candidates now ≡ out) (SameEnd out) (same-kept out)
+      budget true [] [] drawn (sym (pass-walk latter bucket draws budget drawn)))
+
+  -- where the former finds a plan the latter finds the same plan in the same number of turns
+  pub same-plan : (budget drawn left : ℕ) (places : List ℕ) (drawn′ : ℕ) → pass former bucket draws budget drawn ≡ hit left places drawn′
+      → pass latter bucket draws budget drawn ≡ hit left places drawn′
+  same-plan budget drawn left places drawn′ e = rw e at (pass-same budget drawn)
+
+  -- and where the former needs a turn that isn't there, so does the latter
+  pub same-cut : (budget drawn drawn′ : ℕ) → pass former bucket draws budget drawn ≡ cut drawn′ → pass latter bucket draws budget drawn ≡ cut drawn′
+  same-cut budget drawn drawn′ e = rw e at (pass-same budget drawn)
+
+  -- ---- the closing turn
+
+  -- the former closes from here on; the latter ends so and says so of closing
+  abbrev BothFrom : Out → Bool → ℕ → Bool → List ℕ → List (List ℕ) → ℕ → Type 0
+  BothFrom out closed left new places candidates drawn =
+      (walkCloses former bucket draws left new places candidates drawn ≡ true)
+      × (walk latter bucket draws left new places candidates drawn ≡ out)
+      × (walkCloses latter bucket draws left new places candidates drawn ≡ closed)
+
+  -- step by step
+  close-kept : (out : Out) (closed : Bool) → Kept former bucket draws (BothFrom out closed) (SameClose out closed)
+  close-kept out closed =
+      record {
+        at-goal = λ left new places candidates drawn f e. false≢true (sym (closes-goal former bucket draws left new places candidates drawn e) ∙ f .0);
+        at-over = λ left new places candidates drawn f e. absurd (false≢true (sym (closes-over former bucket draws left new places candidates drawn e) ∙ f .0));
+        at-cut = λ new places candidates drawn f e. false≢true (sym (closes-cut former bucket draws new places candidates drawn) ∙ f .0);
+        at-none = λ left new places candidates drawn f e o. (
+          sym (f .1) ∙ turn-none latter bucket draws left new places candidates drawn (ons places e) o,
+          sym (f .2) ∙ closes-none latter bucket draws left new places candidates drawn (ons places e) o,
+        );
+        at-close = λ left new candidates shallower drawn f e o. (
+          sym (f .1) ∙ turn-close latter bucket draws left new candidates shallower drawn (ons [] e) o,
+          sym (f .2) ∙ closes-close latter bucket draws left new candidates shallower drawn (ons [] e) o,
+        );
+        back = λ left new last places candidates shallower drawn f e o. (
+          sym (closes-back former bucket draws left new last places candidates shallower drawn e o) ∙ f .0,
+          sym (turn-back latter bucket draws left new last places candidates shallower drawn (ons (last ∷ places) e) o) ∙ f .1,
+          sym (closes-back latter bucket draws left new last places candidates shallower drawn (ons (last ∷ places) e) o) ∙ f .2,
+        );
+        down = λ left new place rest places candidates shallower drawn f e o. (
+          sym (closes-down former bucket draws left new place rest places candidates shallower drawn e o) ∙ f .0,
+          sym (turn-down latter bucket draws left new place rest places candidates shallower drawn (ons places e) o) ∙ f .1,
+          sym (closes-down latter bucket draws left new place rest places candidates shallower drawn (ons places e) o) ∙ f .2,
+        );
+      }
+
+  -- 'if the former ends at depth 0 with no candidate, so does the latter', in the same number of turns and with the same draws used
+  pub same-closing : (budget drawn : ℕ) → passCloses former bucket draws budget drawn ≡ true
+      → (pass latter bucket draws budget drawn ≡ pass former bucket draws budget drawn) × (passCloses latter bucket draws budget drawn ≡ true)
+  same-closing budget drawn c =
+      let out = pass latter bucket draws budget drawn in
+      let closed = passCloses latter bucket draws budget drawn in
+      same-close out closed (pass former bucket draws budget drawn)
+      (rw (pass-walk former bucket draws budget drawn)
+      (walk-ind former bucket draws (BothFrom out closed) (SameClose out closed) (close-kept out closed) budget true [] [] drawn
+      (sym (pass-closes former bucket draws budget drawn) ∙ c, sym (pass-walk latter bucket draws budget drawn), sym (pass-closes latter bucket draws budget drawn))))
