@@ -15,7 +15,7 @@ EXAMPLES = ROOT / "examples"
 sys.path.insert(0, str(ORACLE))
 sys.dont_write_bytecode = True
 import scope  # noqa: E402
-from cases import critical_sets, listing, plan_check, reduction, roster  # noqa: E402
+from cases import critical_sets, listing, plan_check, reduction, roster, search  # noqa: E402
 from cases.common import Draws, parts, random_row, record, row, u16s  # noqa: E402
 
 SEED = 2_001
@@ -23,6 +23,8 @@ PLANS = 200
 LONG_PLANS = 20
 REDUCTIONS = 20
 ROSTERS = 10
+SEARCHES = 12
+TURNS = 4_000
 
 
 # Plans: 10 to 20 stations, 3 to 6 blocks, 12 to 40 trainees, 20 rows.
@@ -212,6 +214,68 @@ def passing_rosters(size, kinds):
     return bodies
 
 
+# Searches: hospital days that are hard to fill, so that a call takes thousands of turns; own map, four levels, both budgets.
+
+
+def hospital_rows(draws, count, choices, slots):
+    """Mostly choices that may not share a slot, some slots that a choice may not have, some limits of slots."""
+    rows = []
+    while len(rows) < count:
+        kind = draws.pick([2, 2, 4, 4, 4, 4, 4, 4, 4, 6])
+        if kind == 2:
+            rows.append(row(2, draws.below(choices), draws.below(slots)))
+        elif kind == 4:
+            left, right = draws.shuffled(range(choices))[:2]
+            rows.append(row(4, left, right))
+        else:
+            rows.append(row(6, draws.below(slots), draws.between(choices // slots + 1, choices), -2))
+    return rows
+
+
+def hospital_day(draws, choices, slots, rows):
+    """Seats that hardly reach: every slot needs all choosers, and the sum of maximums is little more than that."""
+    choosers = draws.between(12, 60)
+    share = max(1, slots * choosers // choices)
+    maxs = [draws.between(max(1, share - 1), share + 2) for _ in range(choices)]
+    mins = [draws.between(most // 2, most) for most in maxs]
+    call = search.Call(slots, choosers, mins, maxs, [int(draws.chance(0.25)) for _ in range(choices)])
+    call.rows = hospital_rows(draws, rows, choices, slots)
+    call.levels = [0, 1, 2, 3]
+    call.preferences = [[draws.pick([0, 1, 1, 2, 3]) for _ in range(choices)] for _ in range(choosers)]
+    call.draws = [draws.below(2**32) for _ in range(7)]
+    call.orders = [draws.shuffled(range(choices)) for _ in range(4)]
+    call.pass_budget, call.total_budget = TURNS // 4, TURNS
+    return call
+
+
+def searches(mode, analysis, sizes=None):
+    """Days of any of the sizes, or of one."""
+    draws = Draws(SEED + 30)
+    bodies = []
+    while len(bodies) < SEARCHES:
+        size = sizes or (draws.between(10, 40), draws.between(3, 8), draws.between(20, 200))
+        bodies.append(hospital_day(draws, *size).but(mode=mode, analysis=analysis).body())
+    return bodies
+
+
+def failing_searches():
+    """Easy days but for a rule given twice, as the reduction leaves it: no plan has its choice in a slot, which only the check sees."""
+    draws = Draws(SEED + 31)
+    bodies = []
+    while len(bodies) < SEARCHES:
+        call = hospital_day(draws, draws.between(10, 40), draws.between(3, 8), draws.between(20, 60))
+        room = [3 * most for most in call.maxs]
+        call = call.but(mode=search.FULL, mins=[0] * len(room), maxs=room, optional=[0] * len(room))
+        bodies.append(call.but(rows=call.rows + [row(4, 0, 0)]).body())
+    return bodies
+
+
+MODES = {"as the Rust": search.AS_THE_RUST, "full": search.FULL}
+ANALYSES = {"no sets": search.OFF, "sets": search.ON, "simplified sets": search.SIMPLIFIED}
+# One count after another changed, from 24 choices, 5 slots and 80 rows.
+SIZES = [(24, 5, 80), (10, 5, 80), (16, 5, 80), (40, 5, 80), (24, 3, 80), (24, 8, 80), (24, 5, 20), (24, 5, 200)]
+
+
 SMALL = (20, 6, 40)
 LARGE = (64, 24, 200)
 
@@ -236,6 +300,11 @@ SETS = {
        for size in (SMALL, LARGE)
        for what, kinds in [("no rows", []), ("rows of all kinds", [1, 2, 3, 4, 5, 6, 10, 11, 12, 13])]
        + [(f"20 rows of kind {kind}", [kind]) for kind in (10, 11, 12, 13)]},
+    **{f"searches {mode}, {analysis}": ("search", partial(searches, MODES[mode], ANALYSES[analysis]))
+       for mode in MODES for analysis in ANALYSES},
+    "full searches whose placements fail": ("search", failing_searches),
+    **{f"full searches of {size}, {analysis}": ("search", partial(searches, search.FULL, ANALYSES[analysis], size))
+       for size in SIZES for analysis in ("no sets", "sets")},
 }
 
 

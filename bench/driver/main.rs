@@ -3,8 +3,8 @@
 //! `driver PART INPUTS ROUNDS` reads the inputs (records as the oracle's README.md gives
 //! them), has every side answer each of them, compares the answers, and runs each side so
 //! many rounds more. It prints a line for each side: the function that callgrind is asked
-//! for, the calls it got, and the nanoseconds a call in the best round. The listing prints
-//! what it counted besides, a name and a number to a line.
+//! for, the calls it got, and the nanoseconds a call in the best round. The listing and the
+//! search print what they counted besides, a name and a number to a line.
 
 // The published files carry more than the benchmark asks for.
 #![allow(dead_code, unused_imports, unused_variables)]
@@ -50,6 +50,12 @@ mod plan_check;
 mod reduction;
 #[cfg(worker_check_roster)]
 mod roster;
+#[cfg(worker_search)]
+mod ask_critical_sets;
+#[cfg(worker_search)]
+mod ask_search;
+#[cfg(worker_search)]
+mod search;
 
 pub(crate) use assignment::Assignment;
 pub(crate) use choice_data::ChoiceData;
@@ -100,6 +106,8 @@ fn main() {
         "listing" => listing::run(&records, rounds),
         #[cfg(worker_check_roster)]
         "roster" => roster::run(&records, rounds),
+        #[cfg(worker_search)]
+        "search" => search::run(&records, rounds),
         _ => panic!("no part {part} in this driver"),
     }
 }

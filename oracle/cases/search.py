@@ -193,25 +193,45 @@ def random_tight(draws):
     return call
 
 
-def random_case(draws):
-    if draws.chance(0.06):
-        return finished(draws, random_tight(draws))
-    if draws.chance(0.005):
-        choices, slots, choosers = draws.between(12, 40), draws.between(3, 12), draws.between(0, 12)
-    else:
-        choices = draws.between(0, 7)
-        slots = draws.between(0, min(4, choices + (draws.below(8) == 0)))
-        choosers = draws.pick([0, 1, 2, draws.between(0, 9)])
-    return finished(draws, random_day(draws, choices, slots, choosers))
-
-
-def finished(draws, call):
-    """The call with levels, preferences and all that is lent."""
+def finished(draws, call, **fixed):
+    """The call with levels, preferences and all that is lent, but for what is fixed."""
     choices, choosers = len(call.mins), len(call.preferences)
     call.levels = random_levels(draws, draws.between(1, 4))
     call.preferences = random_preferences(draws, choices, choosers, call.levels)
     lend(draws, call)
-    return call.body()
+    return call.but(**fixed).body()
+
+
+def random_call(draws):
+    """A day of any of the sizes, or a tight one."""
+    if draws.chance(0.06):
+        return random_tight(draws)
+    return random_day(draws, *random_sizes(draws))
+
+
+def random_sizes(draws):
+    if draws.chance(0.005):
+        return draws.between(12, 40), draws.between(3, 12), draws.between(0, 12)
+    choices = draws.between(0, 7)
+    slots = draws.between(0, min(4, choices + (draws.below(8) == 0)))
+    return choices, slots, draws.pick([0, 1, 2, draws.between(0, 9)])
+
+
+def random_case(draws):
+    return finished(draws, random_call(draws))
+
+
+def random_as_the_rust(draws):
+    return finished(draws, random_call(draws), mode=AS_THE_RUST)
+
+
+def random_full(draws):
+    return finished(draws, random_call(draws), mode=FULL)
+
+
+def random_full_own(draws):
+    """A full search with the own map: the one that finds a plan if there is one."""
+    return finished(draws, random_call(draws), mode=FULL, map=OWN_MAP)
 
 
 def committed(draws):
@@ -223,3 +243,5 @@ def committed(draws):
     yield from at_the_counts()
     for _ in range(1500):
         yield random_case(draws)
+    for _ in range(400):
+        yield random_full_own(draws)

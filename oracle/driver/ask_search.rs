@@ -23,6 +23,20 @@ const MOST_MAP_NUMBERS: usize = 10_240;
 const OMITTED: usize = 255;
 
 pub(crate) fn answer(case: &mut Input, out: &mut Output) {
+    let (input_data, asked, lent) = read(case);
+    let map = &input_data.choice_constraint_map;
+    if map.values().map(Vec::len).sum::<usize>() > MOST_MAP_NUMBERS {
+        return write_refused(out, MAP_TOO_LONG);
+    }
+    let options = Options::default();
+    match prepared(input_data, &options, asked) {
+        None => write_refused(out, TOO_MANY_SETS),
+        Some(problem) => run(&problem, &options, lent, out),
+    }
+}
+
+/// The day with its map, the analysis asked, and what is lent.
+pub(crate) fn read(case: &mut Input) -> (InputData, u8, Rng) {
     let choices = case.count8();
     let slots = case.count8();
     let choosers = case.count8();
@@ -36,24 +50,23 @@ pub(crate) fn answer(case: &mut Input, out: &mut Output) {
     let map = read_map(case, choices, &input_data.scheduling_constraints);
     let mut lent = read_lent(case, choices);
     lent.full = full;
-
-    if map.values().map(Vec::len).sum::<usize>() > MOST_MAP_NUMBERS {
-        return write_refused(out, MAP_TOO_LONG);
-    }
     input_data.choice_constraint_map = map;
-    match analysed(&input_data, asked) {
-        None => write_refused(out, TOO_MANY_SETS),
-        Some(critical_set_analysis) => {
-            let options = Options::default();
-            let problem = PreparedProblem {
-                static_flow_data: MipFlowStaticData::new(&input_data),
-                scoring: Scoring::new(&input_data, &options),
-                critical_set_analysis,
-                input_data,
-            };
-            run(&problem, &options, lent, out);
-        }
-    }
+    (input_data, asked, lent)
+}
+
+/// The day with its critical sets, unless there are too many.
+pub(crate) fn prepared(
+    input_data: InputData,
+    options: &Options,
+    asked: u8,
+) -> Option<PreparedProblem> {
+    let critical_set_analysis = analysed(&input_data, asked)?;
+    Some(PreparedProblem {
+        static_flow_data: MipFlowStaticData::new(&input_data),
+        scoring: Scoring::new(&input_data, options),
+        critical_set_analysis,
+        input_data,
+    })
 }
 
 fn run(problem: &PreparedProblem, options: &Options, lent: Rng, out: &mut Output) {

@@ -1,4 +1,4 @@
--- 01's examples K1 to K8, each as the test that it states, in one table under one claim.
+-- 01's examples K1 to K10, each as the test that it states, in one table under one claim.
 use mathlib.Core.Path.{_≡_, refl}
 use mathlib.Core.Bool.{Bool, true, false, _&&_, not, cond}
 use mathlib.Core.List.{List, [], _∷_, _++_, flatMap}
@@ -6,12 +6,13 @@ use Prim.Native.Nat.{ℕ}
 use lib.Dec.{eqb}
 use lib.IntN.{pos}
 use lib.ListN.{length, replicate}
-use Rattle.lists.specs.All.{allOf}
-use Rattle.lists.specs.Below.{one, allBelow, countBelow}
+use Rattle.lists.specs.All.{allOf, allAtMost}
+use Rattle.lists.specs.Below.{one, allBelow, countBelow, sumBelow}
 use Rattle.lists.specs.First.{firstFailing}
+use Rattle.lists.specs.Flat.{listBelow, joinBelow}
 use Rattle.lists.specs.Group.{keepBelow, classOf, heads, classes}
-use Rattle.lists.specs.Keep.{anyOf}
-use Rattle.lists.specs.Pool.{pad}
+use Rattle.lists.specs.Keep.{keep, anyOf, sumOver}
+use Rattle.lists.specs.Pool.{pad, window}
 use Rattle.lists.specs.Sorted.{inserted, insertedAll, uniqueSorted}
 use Rattle.constraint.specs.Check.{rowKeeps, rowsJudged, countsInRange}
 use Rattle.constraint.specs.Kind.{columnsOf, kinds}
@@ -27,8 +28,33 @@ use Rattle.constraints.specs.Pairs.{pairRow, pairsOf, mandatoryOne, mandatoryPa
 use Rattle.constraints.specs.Copies.{copyTo, copiesIn, isCopied, copiesOf}
 use Rattle.constraints.specs.Reduction.{addedTo, expanded, reducedRows, reductionOf, reduceOf}
 use Rattle.constraints.specs.declared.Reduction.{Reduction}
-use Rattle.scheduling.specs.Plan.{slotOf, omitted, standsIn, countIn}
-use Rattle.scheduling.specs.Rows.{opHolds, slotsDiffer, offsetKept, keepsRow}
+use Rattle.day_lists.specs.Levels.{levelsInRange, levelsRise, lastLevel}
+use Rattle.scheduling.specs.Plan.{slotOf, omitted, standsIn, countIn, sumUpTo, sumIn}
+use Rattle.scheduling.specs.Rows.{opHolds, slotsDiffer, offsetKept, keepsRow, keepsRows}
+use Rattle.scheduling.specs.Feasible.{omissionAllowed, placeAllowed, placesAllowed, slotFits, feasible, lengthsFit}
+use Rattle.scheduling.specs.Check.{flagsJudged}
+use Rattle.choice_sets.specs.Reach.{someStuck}
+use Rattle.critical_set_analysis.specs.LevelList.{bySize, minimalFrom, levelList}
+use Rattle.critical_set_analysis.specs.declared.analysis.Analysis.the-variants.{Off}
+use Rattle.constraint_map.specs.Map as entries
+use Rattle.constraint_map.specs.Map.{Map, mapOf, lengthOf, hasEntry, lookedUp, entryFits, isWhole, mapKeeps}
+use Rattle.constraint_map.specs.Calls.{mapFull}
+use Rattle.insertion.specs.Insert.{insertAt, insertAfter}
+use Rattle.choice_order.specs.Order.{isPermutation, orderCount, orderAt, ordersKeep, lentOrder, orderedWith, orderedFrom, passOrder}
+use Rattle.rows_allow.specs.Allow.{eachAllows, limitsHold, rowsAllow}
+use Rattle.candidates.specs.Loads.{minOf, maxOf, sizeOf}
+use Rattle.candidates.specs.Tests.{someShort, setsStuck, criticalSlots}
+use Rattle.candidates.specs.Bucket.{allows, hopeless, isOpen, openBelow, mayOmit, withOmission, criticalOf, bucketOf, drawsOne}
+use Rattle.search_walk.specs.Walk.{turn, opened, used, walk, pass}
+use Rattle.search_passes.specs.Passes.{passesFrom}
+use Rattle.pass_rules.specs.Decided.{decided, loadsAt}
+use Rattle.pass_rules.specs.Pass.{choiceAt, remainingAt, depthAt, askedAt, candidatesAt, nextDraw, drawAfter, planOf, sightFull, sightAsTheRust, sightAt, passOf}
+use Rattle.search_input.specs.Given.{Given, givenOf}
+use Rattle.search_input.specs.Judged.{searchInRange, searchLengths, dayJudged, lentJudged}
+use Rattle.search_input.specs.declared.counts.SearchCounts.{SearchCounts}
+use Rattle.scheduling_solver.specs.Search.{startOf, levelsAbove, setsAt, rowsCounted, orderOf, lentAt, passAt, endingOf}
+use Rattle.scheduling_solver.specs.Calls.{Settled, plan, noPlan, outOfTurns, searchJudged, searchOf}
+use Rattle.scheduling_solver.specs.declared.search.Settings.{Settings}
 
 -- a row by its columns, extra as the column holds it
 abbrev row : ℕ → ℕ → ℕ → ℕ → Row
@@ -99,11 +125,65 @@ k7 = keepsRow apart (row 5 0 1 (extraOf (pos 1)))
 abbrev pub k8 : Bool
 k8 = not (keepsRow apart (row 5 1 0 (extraOf (pos 1))))
 
--- the table; later examples join it
+-- ---- the search
+
+-- a plan was found in so many turns
+abbrev pub foundIn : Told Settled → ℕ → Bool
+foundIn (done (plan figures)) turns = eqb (figures .turns) turns
+foundIn (done (noPlan figures)) turns = false
+foundIn (done (outOfTurns figures)) turns = false
+foundIn (refused number carried) turns = false
+
+-- none was, in so many turns
+abbrev pub noneIn : Told Settled → ℕ → Bool
+noneIn (done (plan figures)) turns = false
+noneIn (done (noPlan figures)) turns = eqb (figures .turns) turns
+noneIn (done (outOfTurns figures)) turns = false
+noneIn (refused number carried) turns = false
+
+-- C, S and H of a day with one level and no row
+abbrev searchCounts : ℕ → ℕ → ℕ → SearchCounts
+searchCounts choices slots choosers =
+    record { choices = choices; slots = slots; choosers = choosers; levels = 1; rows = 0; numbers = 0 }
+
+-- the own map of no row
+abbrev noRows : Map
+noRows = mapOf (replicate 64 0) (replicate 64 0) (replicate 10240 0)
+
+-- as the Rust or full, analysis off, from the bound, with turns enough
+abbrev settings : Bool → Settings
+settings full = record { full = full; analysis = Off; «at_last_level» = false; «pass_budget» = 100; «total_budget» = 100 }
+
+-- K9's day: 'S 1, H 4, L 1, level 0, no rows, analysis off, draw 1; choice 0 optional 3..3, choice 1 mandatory 2..4'
+abbrev nine : Given
+nine =
+    givenOf (searchCounts 2 1 4) (3 ∷ 2 ∷ []) (3 ∷ 4 ∷ []) (1 ∷ 0 ∷ []) (0 ∷ []) (replicate 8 0) [] noRows [] [] (1 ∷ [])
+
+-- K10's: 'C 0, S 1'
+abbrev ten : ℕ → Given
+ten choosers = givenOf (searchCounts 0 1 choosers) [] [] [] (0 ∷ []) [] [] noRows [] [] []
+
+-- a lent plan
+abbrev pub before : List ℕ
+before = 7 ∷ 7 ∷ []
+
+-- 'As the Rust: none, 2 turns. Full: 0 out, 1 in slot 0, 6 turns.'
+unfoldable pub k9 : Bool
+k9 =
+    let asTheRust = searchOf nine (settings false) before in
+    let full = searchOf nine (settings true) before in
+    noneIn (asTheRust .answer) 2 && same (asTheRust .buffers) before && foundIn (full .answer) 6 && same (full .buffers) (255 ∷ 0 ∷ [])
+
+-- 'K10 C 0, S 1: H 0 finds an empty plan in 0 turns; H 1 gives none'; in both modes
+unfoldable pub k10 : Bool → Bool
+k10 full =
+    foundIn (searchOf (ten 0) (settings full) [] .answer) 0 && noneIn (searchOf (ten 1) (settings full) [] .answer) 0
+
+-- the table
 abbrev pub table : List Bool
-table = k1 ∷ k2 ∷ k3 ∷ k4 ∷ k5 ∷ k6 ∷ k7 ∷ k8 ∷ []
+table = k1 ∷ k2 ∷ k3 ∷ k4 ∷ k5 ∷ k6 ∷ k7 ∷ k8 ∷ k9 ∷ k10 false ∷ k10 true ∷ []
 
 -- the one claim: every example holds
 pub all-hold : allOf (λ (holds : Bool). holds) table ≡ true
-unfolding allOf same reducesTo reduceOf reductionOf countsInRange rowsJudged rowKeeps firstFailing columnsOf kinds pad rowOf rowNumber flatMap allBelow keepBelow classOf heads classes anyOf inserted insertedAll uniqueSorted fresh soundAt taken climb rootOf hung linked joinOf joinFrom joinAll turnedRow turnedOne clashesAt joinOne sameChoosers pairRow pairsOf mandatoryOne mandatoryPairs copyTo copiesIn isCopied copiesOf addedTo expanded reducedRows keepsRow opHolds slotsDiffer offsetKept slotOf omitted standsIn countIn countBelow one
+unfolding allOf same reducesTo reduceOf reductionOf countsInRange rowsJudged rowKeeps firstFailing columnsOf kinds pad rowOf rowNumber flatMap allBelow keepBelow classOf heads classes anyOf inserted insertedAll uniqueSorted fresh soundAt taken climb rootOf hung linked joinOf joinFrom joinAll turnedRow turnedOne clashesAt joinOne sameChoosers pairRow pairsOf mandatoryOne mandatoryPairs copyTo copiesIn isCopied copiesOf addedTo expanded reducedRows keepsRow opHolds slotsDiffer offsetKept slotOf omitted standsIn countIn countBelow one k9 k10 allAtMost sumBelow listBelow joinBelow keep sumOver window levelsInRange levelsRise lastLevel sumUpTo sumIn keepsRows omissionAllowed placeAllowed placesAllowed slotFits feasible lengthsFit flagsJudged bySize minimalFrom levelList someStuck lengthOf hasEntry lookedUp entryFits isWhole mapKeeps mapFull insertAt insertAfter isPermutation orderCount orderAt ordersKeep lentOrder orderedWith orderedFrom passOrder eachAllows limitsHold rowsAllow minOf maxOf sizeOf someShort setsStuck criticalSlots allows hopeless isOpen openBelow mayOmit withOmission criticalOf bucketOf drawsOne turn opened used walk pass decided loadsAt choiceAt remainingAt depthAt askedAt candidatesAt nextDraw drawAfter planOf sightFull sightAsTheRust sightAt passOf passesFrom searchInRange searchLengths dayJudged lentJudged startOf levelsAbove setsAt rowsCounted orderOf lentAt passAt endingOf searchJudged searchOf entries.startOf
 all-hold = refl

@@ -1,0 +1,3 @@
+pub mod Search
+pub mod Calls
+pub mod steps

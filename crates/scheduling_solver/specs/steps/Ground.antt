@@ -1,0 +1,106 @@
+-- What the passes of a call stand on, and what each of them leaves.
+use mathlib.Core.Path.{_≡_}
+use mathlib.Core.Bool.{Bool, true, cond}
+use mathlib.Core.List.{List, map}
+use Prim.Native.Nat.{ℕ, _+_, _-_, _≤_}
+use lib.Dec.{leb}
+use lib.ListN.{length, getD}
+use Rattle.lists.specs.Flat.{listBelow}
+use Rattle.constraint.specs.Told.{done, Outcome, outcome}
+use Rattle.day_lists.specs.Levels.{levelsInRange, levelsRise}
+use Rattle.scheduling.specs.Day.{Day}
+use Rattle.scheduling.specs.Feasible.{shapesFit}
+use Rattle.critical_set_analysis.specs.Kept.{CriticalSet}
+use Rattle.critical_set_analysis.specs.LevelList.{levelList}
+use Rattle.constraint_map.specs.Map.{Map, lookedUp}
+use Rattle.choice_order.specs.Order.{ordersKeep, passOrder}
+use Rattle.search_walk.specs.Walk.{Out, hit, dry, cut}
+use Rattle.pass_rules.specs.Pass.{Lent, lentOf, planOf, passOf}
+use Rattle.search_passes.specs.Passes.{Ending, found, none, out, passesFrom}
+use Rattle.scheduling_solver.specs.Search.{levelsAbove}
+use Rattle.scheduling_solver.specs.Calls.{Settled, settledBy}
+use Rattle.scheduling_solver.specs.declared.passes.Below.{Below}
+use Rattle.scheduling_solver.specs.declared.passes.Below.the-variants as below
+
+-- what every pass of a call is lent, or has its order and its sets from
+pub record Ground : Type 0 where
+  pub full : Bool
+  pub day : Day
+  pub map : Map
+  pub whole : List ℕ
+  pub orders : List ℕ
+  pub levels : List ℕ
+  pub sets : List CriticalSet
+  pub draws : List ℕ
+
+abbrev pub groundOf : Bool → Day → Map → List ℕ → List ℕ → List ℕ → List CriticalSet → List ℕ → Ground
+groundOf full day map whole orders levels sets draws =
+    record { full = full; day = day; map = map; whole = whole; orders = orders; levels = levels; sets = sets; draws = draws }
+
+-- each choice's number of looked-up rows
+unfoldable pub rowsIn : Map → List ℕ → List ℕ
+rowsIn map whole = listBelow 64 λ choice. length (lookedUp map whole choice)
+
+-- what a pass is lent
+unfoldable pub lentIn : Ground → ℕ → ℕ → Lent
+lentIn ground limit pass =
+    lentOf (ground .full) (ground .day) (ground .map) (ground .whole)
+    (passOrder (ground .day .counts .choices) (ground .orders) (λ choice. getD (rowsIn (ground .map) (ground .whole)) choice 0) pass)
+    (map (λ set. set .members) (levelList (ground .levels) (ground .sets) limit)) (ground .draws)
+
+-- a pass
+unfoldable pub passIn : Ground → ℕ → ℕ → ℕ → ℕ → Out
+passIn ground limit pass turns draw = passOf (lentIn ground limit pass) turns draw
+
+-- the passes from a start on, with the pass budget and all turns
+unfoldable pub endingIn : Ground → ℕ → ℕ → ℕ → Ending
+endingIn ground budget total start = passesFrom (passIn ground) budget (levelsAbove (ground .levels) start) start 0 total 0
+
+-- the plan at exit
+abbrev pub plannedIn : Ground → List ℕ → Ending → List ℕ
+plannedIn ground before (found left pass limit places) = planOf (lentIn ground limit pass) places
+plannedIn ground before (none left pass limit) = before
+plannedIn ground before (out pass limit) = before
+
+-- the answer with its figures, and the plan
+unfoldable pub answered : Ground → ℕ → List ℕ → Ending → Outcome Settled (List ℕ)
+answered ground total before ending = outcome (done (settledBy total ending)) (plannedIn ground before ending)
+
+-- ---- a pass below the last level
+
+-- a plan, the end of all turns, or the turns and the draw for the next pass
+pub data Gone : Type 0 where
+  plan : (left : ℕ) → Gone
+  noTurn : Gone
+  on : (left draw : ℕ) → Gone
+
+abbrev pub belowTells : Below → Gone
+belowTells (below.Found left) = plan left
+belowTells below.OutOfTurns = noTurn
+belowTells (below.On left draw) = on left draw
+
+-- that, and the plan at exit
+pub record Went : Type 0 where
+  pub gone : Gone
+  pub cells : List ℕ
+
+abbrev pub went : Gone → List ℕ → Went
+went gone cells = record { gone = gone; cells = cells }
+
+-- how it went on from the end of the pass
+abbrev pub wentBy : Lent → List ℕ → ℕ → ℕ → Out → Went
+wentBy lent before left budget (hit spared places draw) = went (plan (spared + (left - budget))) (planOf lent places)
+wentBy lent before left budget (dry spared draw) = went (on (spared + (left - budget)) draw) before
+wentBy lent before left budget (cut draw) = cond (leb left budget) (went noTurn before) (went (on (left - budget) draw) before)
+
+-- ---- what is judged before the first pass
+
+-- a day's shape, orders, levels, and the pools of the sets
+pub record Ready (day : Day) (orders levels : List ℕ) (count : ℕ) (masks setLevels before : List ℕ) : Type 0 where
+  pub shapes : shapesFit day before ≡ true
+  pub orders-keep : ordersKeep (day .counts .choices) orders ≡ true
+  pub few-levels : levelsInRange (length levels) ≡ true
+  pub levels-rise : levelsRise levels ≡ true
+  pub few-sets : count ≤ 1024
+  pub masks-full : length masks ≡ 1024
+  pub levels-full : length setLevels ≡ 1024

@@ -1,0 +1,3 @@
+-- What the search's answers say.
+pub mod PassLaws
+pub mod SearchLaws

@@ -1,0 +1,1 @@
+// No code: what the search's answers say, in proofs/.

@@ -1,0 +1,3 @@
+-- The laws of the search's refusals.
+pub mod JudgedLaws
+pub mod Outcomes
