@@ -1,0 +1,67 @@
+-- The first refusals look at no more of a map than its pools' lengths.
+use mathlib.Core.Path.{sym}
+use native.Mathlib.Omega.{arith}
+use lib.Seq.{length-take-le}
+use Rattle.constraint_map.specs.Map.{mapOf}
+use Rattle.day_plan.proofs.WholeSteps.{whole-is}
+use Rattle.day_plan.proofs.PlanSteps.{pools-full, judged-first}
+use borrow.Author.Needs.{needs}
+use Rattle.day_plan.proofs.plan.judge_first.Statement.{statement}
+use Rattle.day_plan.proofs.plan.judge_first.Tie as tie
+
+entries-requires : tie.Need-entries-requires
+entries-requires c κs = search needs
+
+entries-requires-2 : tie.Need-entries-requires-2
+entries-requires-2 c κs = search needs
+
+numbers-requires : tie.Need-numbers-requires
+numbers-requires c κs = search needs
+
+whole-length-requires : tie.Need-whole-length-requires
+whole-length-requires c κs = search needs
+
+count-up-requires : tie.Need-count-up-requires
+count-up-requires c κs = search needs
+
+with-numbers-requires : tie.Need-with-numbers-requires
+with-numbers-requires c κs = search needs
+
+slice-aggregate-judge-day : tie.Need-slice-aggregate-judge-day
+slice-aggregate-judge-day c = search needs
+
+slice-aggregate-judge-day-2 : tie.Need-slice-aggregate-judge-day-2
+slice-aggregate-judge-day-2 c = search needs
+
+slice-aggregate-judge-day-3 : tie.Need-slice-aggregate-judge-day-3
+slice-aggregate-judge-day-3 c = search needs
+
+array-share-prefix-whole : tie.Need-array-share-prefix-whole
+array-share-prefix-whole c = search needs
+
+slice-aggregate-judge-day-4 : tie.Need-slice-aggregate-judge-day-4
+slice-aggregate-judge-day-4 c = sym (length-take-le (c .before .before .before .before .before .before .whole-length .result) (c .before .before .before .before .before .count-up .result) (omega (arith, c .before .before .before .before .before .before .whole-length .ensures, c .before .before .before .before .before .count-up .ensures .0)))
+
+judge-day-requires : tie.Need-judge-day-requires
+judge-day-requires c κs = search needs
+
+returns : tie.Need-returns
+returns c = let s = c .before .before .before .before .before .before .before .before .before .before .before .before .before .before .before .before .before .before in judged-first (s .args .counts) (s .args .mins .now) (s .args .maxs .now) (s .args .optional .now) (s .args .levels .now) (s .args .preferences .now) (s .args .rows .now) (s .args .plan .now) (c .judge-day .result) (mapOf (c .before .before .before .before .before .before .before .before .before .before .entries .result) (c .before .before .before .before .before .before .before .before .before .entries2 .result) (c .before .before .before .before .before .before .before .before .numbers .result)) (pools-full (c .before .before .before .before .before .before .before .before .before .before .entries .result) (c .before .before .before .before .before .before .before .before .before .entries2 .result) (c .before .before .before .before .before .before .before .before .numbers .result) (sym (c .before .before .before .before .before .before .before .before .before .before .entries .ensures)) (sym (c .before .before .before .before .before .before .before .before .before .entries2 .ensures)) (sym (c .before .before .before .before .before .before .before .before .numbers .ensures))) (c .before .before .before .before .before .with-numbers .ensures) (whole-is (s .args .rows .now) (c .before .before .before .before .before .before .count-up .result) (c .before .before .before .before .before .before .before .whole-length .ensures) (c .before .before .before .before .before .before .count-up .ensures .1)) (c .judge-day .ensures)
+
+pub judge-first-spec : {M : Type 1} → statement M
+judge-first-spec =
+    tie.close
+    (tie.spec
+    entries-requires
+    entries-requires-2
+    numbers-requires
+    whole-length-requires
+    count-up-requires
+    with-numbers-requires
+    slice-aggregate-judge-day
+    slice-aggregate-judge-day-2
+    slice-aggregate-judge-day-3
+    array-share-prefix-whole
+    slice-aggregate-judge-day-4
+    judge-day-requires
+    returns)

@@ -1,0 +1,23 @@
+// The settings of a full search.
+use critical_set_analysis::analysis::Analysis;
+use scheduling_solver::search::Settings;
+ghost use mathlib.Core.Path.{_≡_};
+ghost use Rattle.day_plan.specs.Planning.{fullBy};
+
+// Full, with the rest as it is lent.
+pub(crate) fn full_by(
+    analysis: Analysis,
+    at_last_level: bool,
+    pass_budget: u64,
+    total_budget: u64,
+) -> Settings
+    ensures { λ r. ⌜ r ≡ fullBy analysis «at_last_level» «pass_budget» «total_budget» ⌝ }
+{
+    Settings {
+        full: true,
+        analysis,
+        at_last_level,
+        pass_budget,
+        total_budget,
+    }
+}

@@ -1,0 +1,5 @@
+pub mod Limits
+pub mod CallPasses
+pub mod DemandHolds
+pub mod Answers
+pub mod Examples
