@@ -1,14 +1,14 @@
 -- The expansion: the stages one after another, the groups as they lie in their pools, and what the pool holds at the end.
 use mathlib.Core.Path.{_≡_, refl, sym, _∙_, ap, subst}
+use mathlib.Core.Bool.{true}
 use mathlib.Core.List.{List, [], _∷_, _++_, flatten, map, append-nil, append-assoc}
-use Prim.Native.Nat.{ℕ, _+_, _-_, _≤_, _<_}
+use Prim.Native.Nat.{ℕ, _+_, _-_, _*_, _^_, _≤_, _<_, min}
 use native.Mathlib.Nat.{add-zero}
-use native.Mathlib.Numerals.{add-one}
 use native.Mathlib.Omega.{arith}
 use borrow.Rule.Slice.PartMut.{putMid, midOf, post-is}
 use lib.Dec.{ltb}
-use lib.ListN.{length, getD, take, drop, set, replicate, length-append, length-map, length-drop, length-replicate}
-use lib.Seq.{sets, length-sets, take-suc, take-suc-set, take-all, take-at, drop-length}
+use lib.ListN.{length, take, drop, replicate, length-append, length-map, length-drop, length-replicate}
+use lib.Seq.{sets, length-sets, take-all, take-at, drop-length}
 use Rattle.lists.specs.Below.{countBelow}
 use Rattle.lists.specs.steps.Cut.{cutAt, EndsFit}
 use Rattle.lists.specs.Group.{classes, heads, endsFrom}
@@ -23,33 +23,31 @@ use Rattle.union_find.specs.State.{joinAll, rootOf}
 use Rattle.union_find.specs.Groups.{groupsWritten, GroupsOutcome}
 use Rattle.new_rows.specs.Free.{Wrote}
 use Rattle.new_rows.specs.Turn.{turnedRows}
-use Rattle.constraints.specs.Groups.{sameChoosers, joins}
-use Rattle.constraints.specs.Pairs.{groupPairs, mandatoryPairs}
-use Rattle.constraints.specs.Copies.{copiesAll}
+use Rattle.same_choosers.specs.Groups.{sameChoosers, joins}
+use Rattle.added_pairs.specs.Pairs.{groupPairs, mandatoryPairs}
+use Rattle.same_choosers.specs.Copies.{copiesAll}
 use Rattle.constraints.specs.steps.Expand.{Filled, Small, Given}
 use Rattle.constraints.specs.Reduction.{addedTo, expanded}
 use Rattle.constraint.specs.declared.check.Counts.{Counts}
 use Rattle.new_rows.proofs.Turning.{turned-rows-most}
-
--- a list read into another place by place
-pub widen-more : (members choices : List ℕ) (i v : ℕ) → i < length choices → i < length members → v ≡ getD members i 0 → take i choices ≡ take i members
-    → take (i + 1) (set choices i v) ≡ take (i + 1) members
-widen-more members choices i v h g e s =
-    rw (add-one i) (take-suc-set choices i v h ∙ rw (s, e) (sym (take-suc members i 0 g)))
-
-pub widen-all : (members choices : List ℕ) (i : ℕ) → length choices ≡ 64 → length members ≡ 64 → 64 ≤ i → take i choices ≡ take i members → choices ≡ members
-widen-all members choices i c m h s = sym (take-all i choices (omega arith)) ∙ s ∙ take-all i members (omega arith)
+use Rattle.same_choosers.specs.steps.Fit.{groupsFit, copiesFor}
+use Rattle.same_choosers.proofs.Bounds.{copies-most}
+use Rattle.same_choosers.proofs.Fitting.{fits, copies-are}
+use Rattle.added_pairs.specs.steps.Limits.{pairsInGroups, pairsOfChoosers}
+use Rattle.added_pairs.proofs.Bounds.{group-pairs-most, mandatory-pairs-most}
+use Rattle.added_pairs.proofs.Limits.{groups-are, choosers-are}
 
 -- a stage into the free end after the rows already written
-pub stage : (pool pool′ : List ℕ) (total : ℕ) (rows part : List ℕ) {free : List ℕ} {r : ℕ} → total ≤ length pool → Wrote pool 0 rows total pool′
-    → Wrote (midOf total (length pool′ - total) pool′) 0 part r free → Wrote pool 0 (rows ++ part) (total + r) (putMid total (length pool′ - total) pool′ free)
-stage pool pool′ total rows part {free} {r} h w v =
+pub stage : (pool pool′ : List ℕ) (total : ℕ) (rows part : List ℕ) {told free : List ℕ} {r : ℕ} → told ≡ part → total ≤ length pool → Wrote pool 0 rows total pool′
+    → Wrote (midOf total (length pool′ - total) pool′) 0 told r free → Wrote pool 0 (rows ++ part) (total + r) (putMid total (length pool′ - total) pool′ free)
+stage pool pool′ total rows part {told} {free} {r} e h w v =
     let l : length pool′ ≡ length pool = ap length (w .1) ∙ length-sets pool 0 rows in
     let m : midOf total (length pool′ - total) pool′ ≡ drop total pool′ = take-all (length pool′ - total) (drop total pool′) (rw (length-drop total pool′) (omega arith)) in
-    let t : total ≡ length rows = omega (arith, w .0) in (
-      rw (length-append rows part) (omega (arith, w .0, v .0)),
+    let t : total ≡ length rows = omega (arith, w .0) in
+    let n : r ≡ 0 + length part = v .0 ∙ ap (λ (z : List ℕ). 0 + length z) e in (
+      rw (length-append rows part) (omega (arith, w .0, n)),
       ap (λ (z : List ℕ). take total pool′ ++ (free ++ z)) (post-is total (length pool′) pool′ (omega arith) ∙ drop-length pool′)
-          ∙ ap (λ (z : List ℕ). take total pool′ ++ z) (append-nil free ∙ v .1 ∙ ap (λ (z : List ℕ). sets z 0 part) m)
+          ∙ ap (λ (z : List ℕ). take total pool′ ++ z) (append-nil free ∙ v .1 ∙ ap (λ (z : List ℕ). sets z 0 told) m ∙ ap (sets (drop total pool′) 0) e)
           ∙ sets-part pool′ total 0 part (omega arith)
           ∙ ap (λ (n : ℕ). sets pool′ n part) (add-zero total ∙ t)
           ∙ ap (λ (z : List ℕ). sets z (length rows) part) (w .1)
@@ -77,7 +75,12 @@ module _ (choices : ℕ) (rows : List ℕ) (small : choices ≤ 64) where
   groups-flat =
       omega (arith, flat-le choices choices (rootOf (joinAll choices (joins rows))), count-le choices (λ i. ltb (rootOf (joinAll choices (joins rows)) i) choices))
 
-  module _ (count : ℕ) (members ends : List ℕ) (told : outcome (done count) (members, ends) ≡ groupsWritten (sameChoosers choices rows)) where
+  module _ (count : ℕ) (members ends : List ℕ) (first : outcome (done count) (members, ends) ≡ groupsWritten (sameChoosers (min 64 choices) rows)) where
+    told : outcome (done count) (members, ends) ≡ groupsWritten (sameChoosers choices rows)
+    told =
+        let e : min 64 choices ≡ choices = omega arith in
+        first ∙ ap (λ (n : ℕ). groupsWritten (sameChoosers n rows)) e
+
     told-count : count ≡ length (sameChoosers choices rows)
     unfolding groupsWritten
     told-count =
@@ -148,10 +151,10 @@ module _ (rows numbers : List ℕ) (count : ℕ) (r : length rows ≤ 128) (firs
       record { choices-in = g .choices-in; choosers-in = g .choosers-in; rows-in = omega (arith, turned-rows-most rows); pool-is = g .pool-is }
 
 -- the groups as they were read back are the rows' groups
-pub filled-added : (choices choosers : ℕ) (rows members wide ends pool exit : List ℕ) (count : ℕ) → wide ≡ members → cutAt 0 ends members ≡ sameChoosers choices rows
-    → Filled pool (addedTo (cutAt 0 ends wide) choosers rows) count exit → Filled pool (addedTo (sameChoosers choices rows) choosers rows) count exit
-filled-added choices choosers rows members wide ends pool exit count w g f =
-    subst (λ (groups : List (List ℕ)). Filled pool (addedTo groups choosers rows) count exit) (ap (cutAt 0 ends) w ∙ g) f
+pub filled-added : (choices choosers : ℕ) (rows members ends pool exit : List ℕ) (count : ℕ) → cutAt 0 ends members ≡ sameChoosers choices rows
+    → Filled pool (addedTo (cutAt 0 ends members) choosers rows) count exit → Filled pool (addedTo (sameChoosers choices rows) choosers rows) count exit
+filled-added choices choosers rows members ends pool exit count g f =
+    subst (λ (groups : List (List ℕ)). Filled pool (addedTo groups choosers rows) count exit) g f
 
 -- and the turned rows as they were read back are the turned rows
 pub filled-expanded : (counts : Counts) (rows turned pool exit : List ℕ) (count : ℕ) → turned ≡ turnedRows rows
@@ -161,19 +164,56 @@ filled-expanded counts rows turned pool exit count t f =
     subst (λ (z : List ℕ). Filled pool (addedTo (sameChoosers (counts .choices) z) (counts .choosers) z) count exit) t f
 
 -- the groups and the turned rows are as many as the stages ask
-pub small-of : (choices choosers pool : ℕ) (rows wide : List ℕ) (h : choices ≤ 64) (count : ℕ) (members ends : List ℕ)
-    → outcome (done count) (members, ends) ≡ groupsWritten (sameChoosers choices rows) → wide ≡ members → choosers ≤ 200 → length rows ≤ 128 → pool ≡ 1024
-    → Small choosers rows wide (take count ends) pool
-small-of choices choosers pool rows wide h count members ends told w c r p =
-    let m : length wide ≡ 64 = ap length w ∙ members-length choices rows h count members ends told in
+pub small-of : (choices choosers pool : ℕ) (rows : List ℕ) (h : choices ≤ 64) (count : ℕ) (members ends : List ℕ)
+    → outcome (done count) (members, ends) ≡ groupsWritten (sameChoosers (min 64 choices) rows) → choosers ≤ 200 → length rows ≤ 128 → pool ≡ 1024
+    → Small choosers rows members (take count ends) pool
+small-of choices choosers pool rows h count members ends told c r p =
+    let m : length members ≡ 64 = members-length choices rows h count members ends told in
     record {
       choosers-in = c;
       rows-in = r;
       members-in = omega arith;
       groups-in = omega (arith, count-is choices rows h count members ends told, count-most choices rows h count members ends told);
-      ends-fit = rw w (ends-within choices rows h count members ends told);
+      ends-fit = ends-within choices rows h count members ends told;
       pool-is = p;
     }
+
+-- within the limits each stage writes what its rule says, and a count that fits
+module _ {choosers : ℕ} {rows members ends : List ℕ} {pool : ℕ} (s : Small choosers rows members ends pool) where
+  groups-fit : groupsFit members ends ≡ true
+  groups-fit = fits members ends (record { members-in = s .members-in; groups-in = s .groups-in; ends-fit = s .ends-fit })
+
+  pub pairs-plain : pairsInGroups members ends ≡ groupPairs (cutAt 0 ends members)
+  pairs-plain = groups-are members ends groups-fit
+
+  pub choosers-plain : pairsOfChoosers rows choosers ≡ mandatoryPairs rows choosers
+  choosers-plain = choosers-are rows choosers (s .rows-in) (s .choosers-in)
+
+  pub copies-plain : copiesFor members ends rows ≡ copiesAll (cutAt 0 ends members) rows
+  copies-plain = copies-are members ends rows (s .rows-in) groups-fit
+
+  module _ {total : ℕ} (t : total ≡ 0 + length rows) {pairs : ℕ} (p : pairs ≡ 0 + length (pairsInGroups members ends)) where
+    few-two : total + pairs < 2 ^ 20
+    few-two =
+        let n : pairs ≡ 0 + length (groupPairs (cutAt 0 ends members)) = p ∙ ap (λ (z : List ℕ). 0 + length z) pairs-plain in
+        omega (arith, group-pairs-most members ends (s .members-in) (s .groups-in), s .rows-in)
+
+    pub fits-two : total + pairs < 2 ^ 64
+    fits-two = omega (arith, few-two)
+
+    module _ {chosen : ℕ} (q : chosen ≡ 0 + length (pairsOfChoosers rows choosers)) where
+      few-three : total + pairs + chosen < 2 ^ 24
+      few-three =
+          let n : chosen ≡ 0 + length (mandatoryPairs rows choosers) = q ∙ ap (λ (z : List ℕ). 0 + length z) choosers-plain in
+          omega (arith, few-two, mandatory-pairs-most rows (s .rows-in) choosers, s .choosers-in)
+
+      pub fits-three : total + pairs + chosen < 2 ^ 64
+      fits-three = omega (arith, few-three)
+
+      pub fits-four : {copied : ℕ} → copied ≡ 0 + length (copiesFor members ends rows) → total + pairs + chosen + copied < 2 ^ 64
+      fits-four {copied} c =
+          let n : copied ≡ 0 + length (copiesAll (cutAt 0 ends members) rows) = c ∙ ap (λ (z : List ℕ). 0 + length z) copies-plain in
+          omega (arith, few-three, copies-most members ends rows (s .members-in) (s .groups-in) (s .rows-in))
 
 -- all rows, in the order of the stages
 module _ (groups : List (List ℕ)) (choosers : ℕ) (rows : List ℕ) where

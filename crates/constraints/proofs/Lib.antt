@@ -1,7 +1,3 @@
-pub mod Pairing
-pub mod Copying
-pub mod Joining
-pub mod Bounds
 pub mod Filling
 pub mod Calling
 pub mod Result

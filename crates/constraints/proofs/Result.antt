@@ -10,9 +10,9 @@ use Rattle.constraint.specs.declared.check.Counts.{Counts}
 use Rattle.constraint.proofs.ToldLaws as laws
 use Rattle.constraint.proofs.ToldLaws.{refusalOf, refusal-back}
 use Rattle.new_rows.specs.Turn.{turnedRows}
-use Rattle.constraints.specs.Groups.{sameChoosers}
-use Rattle.constraints.specs.Pairs.{groupPairs, mandatoryPairs}
-use Rattle.constraints.specs.Copies.{copiesAll}
+use Rattle.same_choosers.specs.Groups.{sameChoosers}
+use Rattle.added_pairs.specs.Pairs.{groupPairs, mandatoryPairs}
+use Rattle.same_choosers.specs.Copies.{copiesAll}
 use Rattle.constraints.specs.Reduction.{addedTo, expanded, reducedRows, reducedTells, reduceOf}
 use Rattle.constraints.specs.declared.Reduction.{Reduction}
 use Rattle.constraints.specs.declared.Reduced.{Reduced}

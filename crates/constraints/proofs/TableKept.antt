@@ -27,9 +27,9 @@ use Rattle.constraint.proofs.KindLaws.{takes-given, takes-scheduling, takes-ass
 use Rattle.constraint.proofs.RowLaws.{Fits, row-of-number, row-fits}
 use Rattle.union_find.specs.State.{joinAll, rootOf}
 use Rattle.new_rows.specs.Turn.{kindOf, leftOf, rightOf, turnedRow, turnedOne, turnedRows}
-use Rattle.constraints.specs.Groups.{sameChoosers, joins}
-use Rattle.constraints.specs.Pairs.{pairRow, pairsOf, groupPairs, mandatoryOne, mandatory, mandatoryPairs}
-use Rattle.constraints.specs.Copies.{copyTo, copiesIn, isCopied, copiesOf, copiesAll}
+use Rattle.same_choosers.specs.Groups.{sameChoosers, joins}
+use Rattle.added_pairs.specs.Pairs.{pairRow, pairsOf, groupPairs, mandatoryOne, mandatory, mandatoryPairs}
+use Rattle.same_choosers.specs.Copies.{copyTo, copiesIn, isCopied, copiesOf, copiesAll}
 use Rattle.constraints.specs.Reduction.{reducedRows}
 use Rattle.constraints.proofs.Result.{Source, turned, of-group, of-chooser, copied, result-member}
 

@@ -12,9 +12,9 @@ use Rattle.constraint.specs.Told.{Told, done, refuse, refusalTells, unless, Out
 use Rattle.constraint.specs.declared.check.Counts.{Counts}
 use Rattle.constraint.specs.declared.check.Takes.the-variants as takes
 use Rattle.new_rows.specs.Turn.{kindOf, turnedRows, clashOf}
-use Rattle.constraints.specs.Groups.{sameChoosers}
-use Rattle.constraints.specs.Pairs.{groupPairs, mandatoryPairs}
-use Rattle.constraints.specs.Copies.{copiesAll}
+use Rattle.same_choosers.specs.Groups.{sameChoosers}
+use Rattle.added_pairs.specs.Pairs.{groupPairs, mandatoryPairs}
+use Rattle.same_choosers.specs.Copies.{copiesAll}
 use Rattle.constraints.specs.declared.Reduction.{Reduction}
 use Rattle.constraints.specs.declared.Reduced.{Reduced}
 use Rattle.constraints.specs.declared.Reduced.the-variants as reduced

@@ -11,10 +11,7 @@ ghost use Rattle.constraint.specs.Told.{outcome};
 ghost use Rattle.constraints.specs.Reduction.{reducedTells, reductionOf, reduceOf};
 ghost use Rattle.constraints.specs.steps.Expand.{Given};
 
-mod copies;
 mod expand;
-mod groups;
-mod pairs;
 
 // The most rows that a reduction may have before equal ones are dropped, and the length of the pool lent for them.
 pub const MOST_ROWS: usize = 1024;

@@ -2,3 +2,4 @@
 pub mod Settled
 pub mod Examples
 pub mod CallLaws
+pub mod Falls

@@ -1,7 +1,5 @@
 // The public call: refused, out of turns, or listed.
-use super::page::written_of;
 use super::plans::list_choice;
-use super::plans::numbers_asked;
 use constraint::check::Checked;
 use constraint::check::Counts;
 use constraint::refusal::Refusal;
@@ -9,6 +7,8 @@ use listing_nodes::judge::judge;
 use listing_nodes::nodes::Counting;
 use listing_nodes::nodes::count_nodes;
 use listing_nodes::nodes::no_sums;
+use listing_starts::full::numbers_asked;
+use listing_starts::page::written_of;
 ghost use mathlib.Core.Path.{_≡_};
 ghost use mathlib.Core.List.{flatten};
 ghost use Prim.Native.Nat.{_<_, _^_};

@@ -1,132 +1,17 @@
 // The second run, within the budget: each full start is given to the plan check once, and what passes is numbered and put on the page.
-use super::page::put_plan;
-use constraint::check::Counts;
 use listing_nodes::nodes::wide;
-use scheduling::feasible::is_feasible;
+use listing_starts::full::CHOOSERS;
+use listing_starts::full::SLOTS;
+use listing_starts::full::list_plan;
+use listing_starts::places::next_open;
+use listing_starts::places::place_at;
 use scheduling::plan::OMITTED;
 ghost use mathlib.Core.Path.{_≡_};
-ghost use Prim.Native.Nat.{_+_, _-_, _≤_, _<_, _^_};
+ghost use Prim.Native.Nat.{_+_, _-_, _≤_, _<_};
 ghost use lib.ListN.{length, getD, set, take};
 ghost use Rattle.scheduling.specs.Day.{dayOf};
-ghost use Rattle.listing_nodes.specs.steps.Walk.{numbersAsked, countsOf, placeOf, placeFits, sumsWith, sumsWithout, nextOpen, ifFeasible, plansFrom, plansLeft};
-ghost use Rattle.listing_nodes.specs.steps.Runs.{Walks, Stands, Shaped, Lists, Added, Listing, Open};
-
-// Where each of the numbers stands that all the starts share: the day's counts, the first plan number and the room.
-const CHOICES: usize = 0;
-
-const SLOTS: usize = 1;
-
-const CHOOSERS: usize = 2;
-
-const ROWS: usize = 3;
-
-const FIRST: usize = 4;
-
-const ROOM: usize = 5;
-
-// These numbers in one array: a reference to it is one argument at each call.
-pub(crate) fn numbers_asked(counts: Counts, first: u64, room: u64) -> [usize; 6]
-    ensures { λ r. ⌜ r ≡ numbersAsked counts first room ⌝ }
-{
-    [
-        counts.choices,
-        counts.slots,
-        counts.choosers,
-        counts.rows,
-        first as usize,
-        room as usize,
-    ]
-}
-
-// The counts among them.
-fn counts_of(asked: &[usize; 6]) -> Counts
-    ensures { λ r. ⌜ r ≡ countsOf (now (asked .entry)) ⌝ }
-{
-    Counts {
-        choices: asked[CHOICES],
-        slots: asked[SLOTS],
-        choosers: asked[CHOOSERS],
-        rows: asked[ROWS],
-    }
-}
-
-// A full start: one plan more if the plan check passes it.
-fn list_plan(
-    asked: &[usize; 6],
-    mins: &[u16],
-    maxs: &[u16],
-    optional: &[u8],
-    rows: &[u64],
-    plan: &mut [u8],
-    total: &mut u64,
-    buffer: &mut [u8],
-)
-    requires { ⌜ Shaped (dayOf (countsOf (now asked)) (now mins) (now maxs) (now optional) (now rows)) (getD (now asked) 5 0) (now plan) (now buffer) × (now total + length (ifFeasible (dayOf (countsOf (now asked)) (now mins) (now maxs) (now optional) (now rows)) (now plan)) < 2 ^ 64) ⌝ }
-    ensures { λ _. ⌜ Added (getD (now (asked .entry)) 4 0) (getD (now (asked .entry)) 5 0) (ifFeasible (dayOf (countsOf (now (asked .entry))) (now (mins .entry)) (now (maxs .entry)) (now (optional .entry)) (now (rows .entry))) (now (plan .entry))) (now (total .entry)) (now (total .exit)) (now (buffer .entry)) (now (buffer .exit)) × (now (plan .exit) ≡ now (plan .entry)) ⌝ }
-{
-    if !is_feasible(counts_of(asked), mins, maxs, optional, rows, plan) {
-        return;
-    }
-    put_plan(
-        asked[FIRST] as u64,
-        asked[ROOM] as u64,
-        *total,
-        plan,
-        buffer,
-    );
-    *total += 1;
-}
-
-// The place with so many places left, itself among them, 'slots before omission': the slots by their numbers, then omission.
-fn place_at(slots: usize, left: usize) -> usize
-    requires { ⌜ (0 < left) × (left ≤ slots + 1) × (slots ≤ 24) ⌝ }
-    ensures { λ r. ⌜ r ≡ slots + 1 - left ⌝ }
-{
-    slots + 1 - left
-}
-
-// Whether a choice may take a place: a slot whose sum of minimums stays within the headcount, or omission if it is optional.
-fn may_take(
-    slots: usize,
-    choosers: usize,
-    mins: &&[u16],
-    optional: &&[u8],
-    choice: usize,
-    place: usize,
-    sums: &[usize; 24],
-) -> bool
-    requires { ⌜ Walks slots choosers (now (now mins)) (now (now optional)) (choice + 1) (now sums) × (place ≤ slots) ⌝ }
-    ensures { λ r. ⌜ r ≡ placeFits slots choosers (now (now (mins .entry))) (now (now (optional .entry))) (now (sums .entry)) choice (placeOf slots place) ⌝ }
-{
-    if place == slots {
-        return optional[choice] == 1;
-    }
-    let sum = sums[place] + wide(mins[choice]);
-    sum <= choosers
-}
-
-// How many places are left from the next one on that the choice may take; 0 if there is none.
-fn next_open(
-    slots: usize,
-    choosers: usize,
-    mins: &&[u16],
-    optional: &&[u8],
-    choice: usize,
-    left: usize,
-    sums: &[usize; 24],
-) -> usize
-    requires { ⌜ Walks slots choosers (now (now mins)) (now (now optional)) (choice + 1) (now sums) × (left ≤ slots + 1) ⌝ }
-    ensures { λ r. ⌜ r ≡ nextOpen slots choosers (now (now (mins .entry))) (now (now (optional .entry))) (now (sums .entry)) choice left ⌝ }
-{
-    if left == 0 {
-        return 0;
-    }
-    let place = place_at(slots, left);
-    if may_take(slots, choosers, mins, optional, choice, place, sums) {
-        return left;
-    }
-    next_open(slots, choosers, mins, optional, choice, left - 1, sums)
-}
+ghost use Rattle.listing_nodes.specs.steps.Walk.{countsOf, placeOf, sumsWith, sumsWithout, plansFrom, plansLeft};
+ghost use Rattle.listing_nodes.specs.steps.Runs.{Stands, Lists, Listing, Open};
 
 // The choice stands at a place.
 fn take_place(

@@ -25,7 +25,7 @@ abbrev pub after : ℕ → List ℕ → ℕ → List (List ℕ)
 after slots start n = map (λ rest. start ++ rest) (placements slots n)
 
 -- those of one choice more, place by place
-spread : (slots : ℕ) (test : List ℕ → Bool) (start : List ℕ) (n : ℕ) → keep test (after slots start (suc n)) ≡ flatMap (λ place. keep test (after slots (start ++ (place ∷ [])) n)) (places slots)
+pub spread : (slots : ℕ) (test : List ℕ → Bool) (start : List ℕ) (n : ℕ) → keep test (after slots start (suc n)) ≡ flatMap (λ place. keep test (after slots (start ++ (place ∷ [])) n)) (places slots)
 unfolding placements
 spread slots test start n =
     ap (keep test)
@@ -106,17 +106,17 @@ module _ (day : Day) where
   unfolding nodesOf keep placements
   nodes-here start t = rw (append-nil start, t)
 
-  nodes-none : (start : List ℕ) (n : ℕ) → isNode day start ≡ false → nodesUpTo start n ≡ 0
+  pub nodes-none : (start : List ℕ) (n : ℕ) → isNode day start ≡ false → nodesUpTo start n ≡ 0
   unfolding nodesUpTo nodesOf
   nodes-none start n f =
       sum-ext (suc n) (nodesOf start) (λ k. 0) (λ k h. ap length (keep-map-none (isNode day) (λ rest. start ++ rest) (placements (day .counts .slots) k) λ rest. no-node-after day start rest f))
       ∙ sum-zeros (suc n)
 
-  nodes-last : (start : List ℕ) → isNode day start ≡ true → nodesUpTo start 0 ≡ 1
+  pub nodes-last : (start : List ℕ) → isNode day start ≡ true → nodesUpTo start 0 ≡ 1
   unfolding nodesUpTo sumBelow
   nodes-last start t = rw (nodes-here start t)
 
-  nodes-more : (start : List ℕ) (n : ℕ) → isNode day start ≡ true
+  pub nodes-more : (start : List ℕ) (n : ℕ) → isNode day start ≡ true
       → nodesUpTo start (suc n) ≡ suc (sumOver (λ place. nodesUpTo (start ++ (place ∷ [])) n) (places (day .counts .slots)))
   unfolding nodesUpTo
   nodes-more start n t =
@@ -182,7 +182,7 @@ zeros-at zero i = refl
 zeros-at (suc n) zero = refl
 zeros-at (suc n) (suc i) = zeros-at n i
 
-map-same {ℓ} : {A : Type ℓ} (l : List A) → map (λ x. x) l ≡ l
+pub map-same {ℓ} : {A : Type ℓ} (l : List A) → map (λ x. x) l ≡ l
 map-same [] = refl
 map-same (x ∷ l) = ap (λ k. x ∷ k) (map-same l)
 

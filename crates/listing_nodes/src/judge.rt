@@ -14,7 +14,7 @@ ghost use Rattle.constraint.specs.Check.{checkedTells};
 ghost use Rattle.listing_nodes.specs.Judge.{lengthsFit, judgeOf};
 
 // Whether the lent buffer has C bytes for each plan that there is room for, whatever the room.
-fn buffer_fits(choices: usize, room: u64, size: usize) -> bool
+pub fn buffer_fits(choices: usize, room: u64, size: usize) -> bool
     ensures { λ r. ⌜ r ≡ eqb size (room * choices) ⌝ }
 {
     if choices == 0 {

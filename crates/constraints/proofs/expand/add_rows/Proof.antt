@@ -4,19 +4,18 @@ use native.Mathlib.Omega.{arith}
 use mathlib.Core.List.{_++_}
 use lib.ListN.{length}
 use Rattle.lists.specs.steps.Cut.{cutAt}
-use Rattle.constraints.specs.Pairs.{groupPairs, mandatoryPairs}
-use Rattle.constraints.specs.Copies.{copiesAll}
-use Rattle.constraints.proofs.Bounds.{group-pairs-most, mandatory-pairs-most, copies-most}
-use Rattle.constraints.proofs.Filling.{stage, filled-early, filled-whole, added-two, added-three}
+use Rattle.added_pairs.specs.Pairs.{groupPairs, mandatoryPairs}
+use Rattle.same_choosers.specs.Copies.{copiesAll}
+use Rattle.constraints.proofs.Filling.{stage, filled-early, filled-whole, added-two, added-three, pairs-plain, choosers-plain, copies-plain, fits-two, fits-three, fits-four}
 use borrow.Author.Needs.{needs}
 use Rattle.constraints.proofs.expand.add_rows.Statement.{statement}
 use Rattle.constraints.proofs.expand.add_rows.Tie as tie
 use Rattle.constraints.proofs.expand.add_rows.Reads as reads
 use Rattle.constraints.proofs.expand.add_rows.Lts as lts
-use Rattle.constraints.proofs.copies.copies.Reads as copies-reads
+use Rattle.same_choosers.proofs.copies.copies.Reads as copies-reads
 use Rattle.new_rows.proofs.free.copy.Reads as copy-reads
-use Rattle.constraints.proofs.pairs.group_pairs.Reads as group-pairs-reads
-use Rattle.constraints.proofs.pairs.mandatory_pairs.Reads as mandatory-pairs-reads
+use Rattle.added_pairs.proofs.pairs.group_pairs.Reads as group-pairs-reads
+use Rattle.added_pairs.proofs.pairs.mandatory_pairs.Reads as mandatory-pairs-reads
 
 -- src/expand.rt:62:9
 copy-requires : tie.Need-copy-requires
@@ -40,19 +39,12 @@ part-group-pairs-end c = search needs
 
 -- src/expand.rt:63:14
 group-pairs-requires : tie.Need-group-pairs-requires
-group-pairs-requires c κs =
-    let s = c .before .before .before .before .before .before .before .before .before in
-    let g = cutAt 0 (s .args .ends .now) (s .args .members .now) in
-    let l = s .pre in
-    (l .ends-fit, omega (arith, group-pairs-most (s .args .members .now) (s .args .ends .now) (l .members-in) (l .groups-in)))
+group-pairs-requires c κs = search needs
 
 -- src/expand.rt:63:5
 add-total : tie.Need-add-total
 add-total c =
-    let s = c .before .before .before .before .before .before .before .before .before .before .before .before in
-    let g = cutAt 0 (s .args .ends .now) (s .args .members .now) in
-    let l = s .pre in
-    omega (arith, c .before .before .before .before .before .before .copy .ensures .0, c .before .before .group-pairs .ensures .0, group-pairs-most (s .args .members .now) (s .args .ends .now) (l .members-in) (l .groups-in))
+    record { fits = fits-two (c .before .before .before .before .before .before .before .before .before .before .before .before .pre) (c .before .before .before .before .before .before .copy .ensures .0) (c .before .before .group-pairs .ensures .0) }
 
 -- src/expand.rt:65:9
 same-length : tie.Need-same-length
@@ -64,7 +56,7 @@ returns c =
     let s = c .before .before .before .before .before .before .before .before .before .before .before .before .before in
     let g = cutAt 0 (s .args .ends .now) (s .args .members .now) in
     let l = s .pre in
-    let w = stage (s .args .pool .now) _ _ (s .args .rows .now) (groupPairs g) (omega (arith, c .before .before .before .before .before .before .before .copy .ensures .0)) (c .before .before .before .before .before .before .before .copy .ensures) (c .before .before .before .group-pairs .ensures) in
+    let w = stage (s .args .pool .now) _ _ (s .args .rows .now) (groupPairs g) (pairs-plain l) (omega (arith, c .before .before .before .before .before .before .before .copy .ensures .0)) (c .before .before .before .before .before .before .before .copy .ensures) (c .before .before .before .group-pairs .ensures) in
     filled-early _ (s .args .rows .now ++ groupPairs g) (mandatoryPairs (s .args .rows .now) (s .args .choosers) ++ copiesAll g (s .args .rows .now)) _ _ (l .pool-is) (added-two g (s .args .choosers) (s .args .rows .now)) w (omega (arith, c .if1 .taken, c .before .before .pool2 .given .1, c .before .before .before .before .before .before .pool .given))
 
 -- src/expand.rt:67:53
@@ -85,19 +77,12 @@ part-mandatory-pairs-end c = search needs
 
 -- src/expand.rt:67:14
 mandatory-pairs-requires : tie.Need-mandatory-pairs-requires
-mandatory-pairs-requires c κs =
-    let s = c .before .before .before .before .before .before .before .before .before .before .before .before .before .before in
-    let g = cutAt 0 (s .args .ends .now) (s .args .members .now) in
-    let l = s .pre in
-    (l .rows-in, omega (arith, mandatory-pairs-most (s .args .rows .now) (l .rows-in) (s .args .choosers)))
+mandatory-pairs-requires c κs = search needs
 
 -- src/expand.rt:67:5
 add-total-2 : tie.Need-add-total-2
 add-total-2 c =
-    let s = c .before .before .before .before .before .before .before .before .before .before .before .before .before .before .before .before .before in
-    let g = cutAt 0 (s .args .ends .now) (s .args .members .now) in
-    let l = s .pre in
-    omega (arith, c .before .before .before .before .before .before .before .before .before .before .before .copy .ensures .0, c .before .before .before .before .before .before .before .group-pairs .ensures .0, c .before .before .mandatory-pairs .ensures .0, group-pairs-most (s .args .members .now) (s .args .ends .now) (l .members-in) (l .groups-in), mandatory-pairs-most (s .args .rows .now) (l .rows-in) (s .args .choosers))
+    record { fits = fits-three (c .before .before .before .before .before .before .before .before .before .before .before .before .before .before .before .before .before .pre) (c .before .before .before .before .before .before .before .before .before .before .before .copy .ensures .0) (c .before .before .before .before .before .before .before .group-pairs .ensures .0) (c .before .before .mandatory-pairs .ensures .0) }
 
 -- src/expand.rt:69:9
 same-length-2 : tie.Need-same-length-2
@@ -109,8 +94,8 @@ returns-2 c =
     let s = c .before .before .before .before .before .before .before .before .before .before .before .before .before .before .before .before .before .before in
     let g = cutAt 0 (s .args .ends .now) (s .args .members .now) in
     let l = s .pre in
-    let w = stage (s .args .pool .now) _ _ (s .args .rows .now) (groupPairs g) (omega (arith, c .before .before .before .before .before .before .before .before .before .before .before .before .copy .ensures .0)) (c .before .before .before .before .before .before .before .before .before .before .before .before .copy .ensures) (c .before .before .before .before .before .before .before .before .group-pairs .ensures) in
-    let v = stage (s .args .pool .now) _ _ (s .args .rows .now ++ groupPairs g) (mandatoryPairs (s .args .rows .now) (s .args .choosers)) (omega (arith, c .before .before .before .before .before .if1 .left, c .before .before .before .before .before .before .before .pool2 .given .1, c .before .before .before .before .before .before .before .before .before .before .before .pool .given)) w (c .before .before .before .mandatory-pairs .ensures) in
+    let w = stage (s .args .pool .now) _ _ (s .args .rows .now) (groupPairs g) (pairs-plain l) (omega (arith, c .before .before .before .before .before .before .before .before .before .before .before .before .copy .ensures .0)) (c .before .before .before .before .before .before .before .before .before .before .before .before .copy .ensures) (c .before .before .before .before .before .before .before .before .group-pairs .ensures) in
+    let v = stage (s .args .pool .now) _ _ (s .args .rows .now ++ groupPairs g) (mandatoryPairs (s .args .rows .now) (s .args .choosers)) (choosers-plain l) (omega (arith, c .before .before .before .before .before .if1 .left, c .before .before .before .before .before .before .before .pool2 .given .1, c .before .before .before .before .before .before .before .before .before .before .before .pool .given)) w (c .before .before .before .mandatory-pairs .ensures) in
     filled-early _ (s .args .rows .now ++ groupPairs g ++ mandatoryPairs (s .args .rows .now) (s .args .choosers)) (copiesAll g (s .args .rows .now)) _ _ (l .pool-is) (added-three g (s .args .choosers) (s .args .rows .now)) v (omega (arith, c .if2 .taken, c .before .before .pool3 .given .1, c .before .before .before .before .before .before .before .pool2 .given .1, c .before .before .before .before .before .before .before .before .before .before .before .pool .given))
 
 -- src/expand.rt:71:49
@@ -131,19 +116,12 @@ part-copies-end c = search needs
 
 -- src/expand.rt:71:13
 copies-requires : tie.Need-copies-requires
-copies-requires c κs =
-    let s = c .before .before .before .before .before .before .before .before .before .before .before .before .before .before .before .before .before .before .before in
-    let g = cutAt 0 (s .args .ends .now) (s .args .members .now) in
-    let l = s .pre in
-    (l .ends-fit, omega (arith, copies-most (s .args .members .now) (s .args .ends .now) (s .args .rows .now) (l .members-in) (l .groups-in) (l .rows-in)))
+copies-requires c κs = search needs
 
 -- src/expand.rt:71:5
 add-result : tie.Need-add-result
 add-result c =
-    let s = c .before .before .before .before .before .before .before .before .before .before .before .before .before .before .before .before .before .before .before .before .before .before in
-    let g = cutAt 0 (s .args .ends .now) (s .args .members .now) in
-    let l = s .pre in
-    omega (arith, c .before .before .before .before .before .before .before .before .before .before .before .before .before .before .before .before .copy .ensures .0, c .before .before .before .before .before .before .before .before .before .before .before .before .group-pairs .ensures .0, c .before .before .before .before .before .before .before .mandatory-pairs .ensures .0, c .before .before .copies .ensures .0, group-pairs-most (s .args .members .now) (s .args .ends .now) (l .members-in) (l .groups-in), mandatory-pairs-most (s .args .rows .now) (l .rows-in) (s .args .choosers), copies-most (s .args .members .now) (s .args .ends .now) (s .args .rows .now) (l .members-in) (l .groups-in) (l .rows-in))
+    record { fits = fits-four (c .before .before .before .before .before .before .before .before .before .before .before .before .before .before .before .before .before .before .before .before .before .before .pre) (c .before .before .before .before .before .before .before .before .before .before .before .before .before .before .before .before .copy .ensures .0) (c .before .before .before .before .before .before .before .before .before .before .before .before .group-pairs .ensures .0) (c .before .before .before .before .before .before .before .mandatory-pairs .ensures .0) (c .before .before .copies .ensures .0) }
 
 -- src/expand.rt:58:1
 same-length-3 : tie.Need-same-length-3
@@ -155,9 +133,9 @@ returns-3 c =
     let s = c .before .before .before .before .before .before .before .before .before .before .before .before .before .before .before .before .before .before .before .before .before .before in
     let g = cutAt 0 (s .args .ends .now) (s .args .members .now) in
     let l = s .pre in
-    let w = stage (s .args .pool .now) _ _ (s .args .rows .now) (groupPairs g) (omega (arith, c .before .before .before .before .before .before .before .before .before .before .before .before .before .before .before .before .copy .ensures .0)) (c .before .before .before .before .before .before .before .before .before .before .before .before .before .before .before .before .copy .ensures) (c .before .before .before .before .before .before .before .before .before .before .before .before .group-pairs .ensures) in
-    let v = stage (s .args .pool .now) _ _ (s .args .rows .now ++ groupPairs g) (mandatoryPairs (s .args .rows .now) (s .args .choosers)) (omega (arith, c .before .before .before .before .before .before .before .before .before .if1 .left, c .before .before .before .before .before .before .before .before .before .before .before .pool2 .given .1, c .before .before .before .before .before .before .before .before .before .before .before .before .before .before .before .pool .given)) w (c .before .before .before .before .before .before .before .mandatory-pairs .ensures) in
-    let u = stage (s .args .pool .now) _ _ (s .args .rows .now ++ groupPairs g ++ mandatoryPairs (s .args .rows .now) (s .args .choosers)) (copiesAll g (s .args .rows .now)) (omega (arith, c .before .before .before .before .if2 .left, c .before .before .before .before .before .before .pool3 .given .1, c .before .before .before .before .before .before .before .before .before .before .before .pool2 .given .1, c .before .before .before .before .before .before .before .before .before .before .before .before .before .before .before .pool .given)) v (c .before .before .copies .ensures) in
+    let w = stage (s .args .pool .now) _ _ (s .args .rows .now) (groupPairs g) (pairs-plain l) (omega (arith, c .before .before .before .before .before .before .before .before .before .before .before .before .before .before .before .before .copy .ensures .0)) (c .before .before .before .before .before .before .before .before .before .before .before .before .before .before .before .before .copy .ensures) (c .before .before .before .before .before .before .before .before .before .before .before .before .group-pairs .ensures) in
+    let v = stage (s .args .pool .now) _ _ (s .args .rows .now ++ groupPairs g) (mandatoryPairs (s .args .rows .now) (s .args .choosers)) (choosers-plain l) (omega (arith, c .before .before .before .before .before .before .before .before .before .if1 .left, c .before .before .before .before .before .before .before .before .before .before .before .pool2 .given .1, c .before .before .before .before .before .before .before .before .before .before .before .before .before .before .before .pool .given)) w (c .before .before .before .before .before .before .before .mandatory-pairs .ensures) in
+    let u = stage (s .args .pool .now) _ _ (s .args .rows .now ++ groupPairs g ++ mandatoryPairs (s .args .rows .now) (s .args .choosers)) (copiesAll g (s .args .rows .now)) (copies-plain l) (omega (arith, c .before .before .before .before .if2 .left, c .before .before .before .before .before .before .pool3 .given .1, c .before .before .before .before .before .before .before .before .before .before .before .pool2 .given .1, c .before .before .before .before .before .before .before .before .before .before .before .before .before .before .before .pool .given)) v (c .before .before .copies .ensures) in
     filled-whole _ _ _ _ (added-three g (s .args .choosers) (s .args .rows .now)) u
 
 pub add-rows-spec : {M : Type 1} → statement M

@@ -9,10 +9,10 @@ use Rattle.listing.proofs.list_plans.list_all.Statement.{statement}
 use Rattle.listing.proofs.list_plans.list_all.Tie as tie
 
 numbers-asked-requires : tie.Need-numbers-asked-requires
-numbers-asked-requires c κs = search needs
+numbers-asked-requires c κs = tt
 
 no-plan-requires : tie.Need-no-plan-requires
-no-plan-requires c κs = search needs
+no-plan-requires c κs = tt
 
 array-borrow-prefix-plan : tie.Need-array-borrow-prefix-plan
 array-borrow-prefix-plan c = search needs
@@ -23,7 +23,7 @@ slice-aggregate-places c =
     sym (length-take-le (s .args .counts .choices) (c .before .no-plan .result) (omega (arith, c .before .no-plan .ensures, s .pre .0 .few-choices)))
 
 no-sums-requires : tie.Need-no-sums-requires
-no-sums-requires c κs = search needs
+no-sums-requires c κs = tt
 
 list-choice-requires : tie.Need-list-choice-requires
 list-choice-requires c κs =

@@ -7,12 +7,12 @@ use Rattle.listing.proofs.list_plans.list_day.Tie as tie
 use Rattle.listing.proofs.list_plans.list_day.Reads as reads
 use Rattle.listing.proofs.list_plans.list_day.Lts as lts
 use Rattle.listing.proofs.list_plans.list_all.Reads as list-all-reads
-use Rattle.listing.proofs.page.written_of.Reads as written-of-reads
+use Rattle.listing_starts.proofs.page.written_of.Reads as written-of-reads
 use Rattle.listing_nodes.proofs.nodes.count_nodes.Reads as count-nodes-reads
 
 -- src/list_plans.rt:91:9
 count-nodes-requires : tie.Need-count-nodes-requires
-count-nodes-requires c κs = search needs
+count-nodes-requires c κs = tt
 
 -- src/list_plans.rt:92:26
 enum-known-counted : tie.Need-enum-known-counted
@@ -38,7 +38,7 @@ list-all-requires c κs =
 
 -- src/list_plans.rt:96:9
 written-of-requires : tie.Need-written-of-requires
-written-of-requires c κs = search needs
+written-of-requires c κs = tt
 
 -- src/list_plans.rt:77:1
 same-length : tie.Need-same-length

@@ -8,7 +8,7 @@ use Rattle.listing.proofs.list_plans.list_plans.Statement.{statement}
 use Rattle.listing.proofs.list_plans.list_plans.Tie as tie
 
 judge-requires : tie.Need-judge-requires
-judge-requires c κs = search needs
+judge-requires c κs = tt
 
 enum-known-judged : tie.Need-enum-known-judged
 enum-known-judged c = search needs

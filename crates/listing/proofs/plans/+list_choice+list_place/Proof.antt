@@ -1,8 +1,10 @@
 -- The second run: choices left and places left fall; each need is one law of ListLaws.
 use mathlib.Core.Path.{_∙_}
-use native.Mathlib.Omega.{arith}
 use borrow.Author.Needs.{needs}
 use Rattle.listing_nodes.proofs.ListLaws.{full-numbers, listing-full, on-walks, on-none, on-requires, listing-on, within-plan, taken-requires, stands-after, walks-back, fewer, none-left, rest-requires, listing-rest}
+use Rattle.listing.proofs.Falls.{to-place, to-choice, to-next, all-places, next-choice, before-next, last-place, low-sum}
+use Rattle.listing_starts.proofs.OpenLaws.{place-told, open-told}
+use Rattle.listing_starts.proofs.FullLaws.{full-added}
 use Prim.Native.Nat.{ℕ, _+_, _-_, _*_, _<_}
 use lib.ListN.{length}
 use borrow.Fn.Kinds.{In}
@@ -13,9 +15,9 @@ use Rattle.listing.proofs.plans.+list_choice+list_place.Lts-list_choice
 use Rattle.listing.proofs.plans.list_place.Reads as list-place
 use Rattle.listing.proofs.plans.list_place.Kinds as list-place-kinds
 use Rattle.listing.proofs.plans.+list_choice+list_place.Lts-list_place as list-place-lts
-use Rattle.listing.proofs.plans.list_plan.Reads as list-plan-reads
-use Rattle.listing.proofs.plans.next_open.Reads as next-open-reads
-use Rattle.listing.proofs.plans.place_at.Reads as place-at-reads
+use Rattle.listing_starts.proofs.full.list_plan.Reads as list-plan-reads
+use Rattle.listing_starts.proofs.places.next_open.Reads as next-open-reads
+use Rattle.listing_starts.proofs.places.place_at.Reads as place-at-reads
 use Rattle.listing.proofs.plans.take_place.Reads as take-place-reads
 use Rattle.listing.proofs.plans.leave_place.Reads as leave-place-reads
 use Rattle.listing.proofs.plans.+list_choice+list_place.{statement}
@@ -63,8 +65,7 @@ list-choice-list-plan-requires : (t : ℕ) → list-choice-lts.Need-list-plan-re
   list-place.Post,
 ) (list-choice-at t) list-choice.Post
 list-choice-list-plan-requires t c κs =
-    let l = c .before .before .before .before .before .before .before .before .before .pre .1 in
-    (l .shaped, full-numbers l (c .before .before .before .before .before .before .before .if1 .taken))
+    tt
 
 list-choice-same-length : (t : ℕ) → list-choice-lts.Need-same-length (
   list-plan-reads.Asked,
@@ -86,7 +87,10 @@ list-choice-returns : (t : ℕ) → list-choice-lts.Need-returns (
   list-place.Post,
 ) (list-choice-at t) list-choice.Post
 list-choice-returns t c =
-    listing-full (c .before .before .before .before .before .before .before .before .before .before .before .before .pre .1) (c .before .before .before .before .before .before .before .before .before .before .if1 .taken) (c .before .before .list-plan .ensures .1) (c .before .before .list-plan .ensures .0)
+    let l = c .before .before .before .before .before .before .before .before .before .before .before .before .pre .1 in
+    let e = c .before .before .before .before .before .before .before .before .before .before .if1 .taken in
+    let p = c .before .before .list-plan .ensures in
+    listing-full l e (p .2) (full-added _ _ _ _ _ _ (l .shaped) (full-numbers l e) (p .0) (p .1))
 
 list-choice-element-copy-out-slots : (t : ℕ) → list-choice-lts.Need-element-copy-out-slots (
   list-plan-reads.Asked,
@@ -119,7 +123,7 @@ list-choice-add-next-open : (t : ℕ) → list-choice-lts.Need-add-next-open (
   list-place.Post,
 ) (list-choice-at t) list-choice.Post
 list-choice-add-next-open t c =
-    record { fits = omega (arith, c .before .before .before .before .pre .1 .shaped .few-slots) }
+    record { fits = all-places _ (c .before .before .before .before .pre .1 .shaped .few-slots) }
 
 list-choice-next-open-requires : (t : ℕ) → list-choice-lts.Need-next-open-requires (
   list-plan-reads.Asked,
@@ -130,7 +134,7 @@ list-choice-next-open-requires : (t : ℕ) → list-choice-lts.Need-next-open-re
   list-place.Post,
 ) (list-choice-at t) list-choice.Post
 list-choice-next-open-requires t c κs =
-    (on-walks (c .before .before .before .before .before .pre .1) (c .before .before .before .if1 .left), omega arith)
+    tt
 
 list-choice-returns-2 : (t : ℕ) → list-choice-lts.Need-returns-2 (
   list-plan-reads.Asked,
@@ -141,7 +145,7 @@ list-choice-returns-2 : (t : ℕ) → list-choice-lts.Need-returns-2 (
   list-place.Post,
 ) (list-choice-at t) list-choice.Post
 list-choice-returns-2 t c =
-    on-none (c .before .before .before .before .before .before .before .pre .1) (c .before .before .before .before .before .if1 .left) (c .before .next-open .ensures) (c .if2 .taken)
+    on-none (c .before .before .before .before .before .before .before .pre .1) (c .before .before .before .before .before .if1 .left) (open-told _ _ _ _ _ _ (c .before .before .before .before .before .before .before .pre .1 .shaped .few-slots) _ (c .before .next-open .ensures)) (c .if2 .taken)
 
 list-choice-list-place-requires : (t : ℕ) → list-choice-lts.Need-list-place-requires (
   list-plan-reads.Asked,
@@ -153,8 +157,8 @@ list-choice-list-place-requires : (t : ℕ) → list-choice-lts.Need-list-place-
 ) (list-choice-at t) list-choice.Post
 list-choice-list-place-requires t c κs =
     let s = c .before .before .before .before .before .before .before .before .before .before .before in
-    let r = on-requires (s .pre .1) (c .before .before .before .before .before .before .before .before .before .if1 .left) (c .before .before .before .before .before .next-open .ensures) (c .before .before .before .before .if2 .left) in
-    (omega (arith, s .pre .0, r .1 .few, s .pre .1 .shaped .few-slots), r)
+    let r = on-requires (s .pre .1) (c .before .before .before .before .before .before .before .before .before .if1 .left) (open-told _ _ _ _ _ _ (s .pre .1 .shaped .few-slots) _ (c .before .before .before .before .before .next-open .ensures)) (c .before .before .before .before .if2 .left) in
+    (to-place t (length (s .args .mins .now .now)) (s .args .choice) _ _ (s .pre .0) (r .1 .few) (s .pre .1 .shaped .few-slots), r)
 
 list-choice-same-length-2 : (t : ℕ) → list-choice-lts.Need-same-length-2 (
   list-plan-reads.Asked,
@@ -176,7 +180,7 @@ list-choice-returns-3 : (t : ℕ) → list-choice-lts.Need-returns-3 (
   list-place.Post,
 ) (list-choice-at t) list-choice.Post
 list-choice-returns-3 t c =
-    listing-on (c .before .before .before .before .before .before .before .before .before .before .before .before .before .before .pre .1) (c .before .before .before .before .before .before .before .before .before .before .before .before .if1 .left) (c .before .before .before .before .before .before .before .before .next-open .ensures) (c .before .before .list-place .ensures)
+    listing-on (c .before .before .before .before .before .before .before .before .before .before .before .before .before .before .pre .1) (c .before .before .before .before .before .before .before .before .before .before .before .before .if1 .left) (open-told _ _ _ _ _ _ (c .before .before .before .before .before .before .before .before .before .before .before .before .before .before .pre .1 .shaped .few-slots) _ (c .before .before .before .before .before .before .before .before .next-open .ensures)) (c .before .before .list-place .ensures)
 
 list-place-element-copy-out-slots : (t : ℕ) → list-place-lts.Need-element-copy-out-slots (
   place-at-reads.Asked,
@@ -210,8 +214,7 @@ list-place-place-at-requires : (t : ℕ) → list-place-lts.Need-place-at-requir
   list-place.Post,
 ) (list-place-at t) list-place.Post
 list-place-place-at-requires t c κs =
-    let s = c .before .before in
-    (s .pre .1 .1 .some, s .pre .1 .1 .few, s .pre .1 .0 .shaped .few-slots)
+    tt
 
 list-place-take-place-requires : (t : ℕ) → list-place-lts.Need-take-place-requires (
   place-at-reads.Asked,
@@ -230,7 +233,7 @@ list-place-take-place-requires : (t : ℕ) → list-place-lts.Need-take-place-re
 list-place-take-place-requires t c κs =
     let s = c .before .before .before .before .before in
     let w = s .pre .1 .0 .walks in
-    (omega (arith, w .within), w .few-choices, within-plan (s .args .choice) (s .args .left) (s .pre .1 .0) (s .pre .1 .1), omega (arith, c .before .before .place-at .ensures, s .pre .1 .1 .some), s .pre .1 .0 .shaped .few-slots, omega (arith, w .low (c .before .before .place-at .result), w .few-choosers))
+    (before-next _ _ (w .within), w .few-choices, within-plan (s .args .choice) (s .args .left) (s .pre .1 .0) (s .pre .1 .1), last-place _ _ (c .before .before .place-at .ensures), s .pre .1 .0 .shaped .few-slots, low-sum (w .low (c .before .before .place-at .result)) (w .few-choosers))
 
 list-place-add-list-choice : (t : ℕ) → list-place-lts.Need-add-list-choice (
   place-at-reads.Asked,
@@ -248,7 +251,7 @@ list-place-add-list-choice : (t : ℕ) → list-place-lts.Need-add-list-choice (
 ) (list-place-at t) list-place.Post
 list-place-add-list-choice t c =
     let w = c .before .before .before .before .before .before .pre .1 .0 .walks in
-    record { fits = omega (arith, w .within, w .few-choices) }
+    record { fits = next-choice _ _ (w .within) (w .few-choices) }
 
 list-place-list-choice-requires : (t : ℕ) → list-place-lts.Need-list-choice-requires (
   place-at-reads.Asked,
@@ -266,7 +269,7 @@ list-place-list-choice-requires : (t : ℕ) → list-place-lts.Need-list-choice-
 ) (list-place-at t) list-place.Post
 list-place-list-choice-requires t c κs =
     let s = c .before .before .before .before .before .before .before .before .before .before in
-    (omega (arith, s .pre .0, s .pre .1 .0 .walks .within, s .pre .1 .1 .some), taken-requires (s .args .choice) (s .args .left) (s .pre .1 .0) (s .pre .1 .1) (c .before .before .before .before .before .before .before .place-at .ensures) (c .before .before .before .before .take-place .ensures .0) (c .before .before .before .before .take-place .ensures .1))
+    (to-choice t (length (s .args .mins .now .now)) (s .args .choice) (s .args .left) (s .pre .0) (s .pre .1 .0 .walks .within) (s .pre .1 .1 .some), taken-requires (s .args .choice) (s .args .left) (s .pre .1 .0) (s .pre .1 .1) (place-told _ _ (s .pre .1 .1 .some) (c .before .before .before .before .before .before .before .place-at .ensures)) (c .before .before .before .before .take-place .ensures .0) (c .before .before .before .before .take-place .ensures .1))
 
 list-place-leave-place-requires : (t : ℕ) → list-place-lts.Need-leave-place-requires (
   place-at-reads.Asked,
@@ -284,7 +287,7 @@ list-place-leave-place-requires : (t : ℕ) → list-place-lts.Need-leave-place-
 ) (list-place-at t) list-place.Post
 list-place-leave-place-requires t c κs =
     let s = c .before .before .before .before .before .before .before .before .before .before .before .before .before .before in
-    stands-after (s .args .choice) (s .args .left) (s .pre .1 .0) (s .pre .1 .1) (c .before .before .before .before .before .before .before .before .before .before .before .place-at .ensures) (c .before .before .before .before .before .before .before .before .take-place .ensures .0) (c .before .before .before .before .before .before .before .before .take-place .ensures .1) (c .before .before .before .list-choice .ensures)
+    stands-after (s .args .choice) (s .args .left) (s .pre .1 .0) (s .pre .1 .1) (place-told _ _ (s .pre .1 .1 .some) (c .before .before .before .before .before .before .before .before .before .before .before .place-at .ensures)) (c .before .before .before .before .before .before .before .before .take-place .ensures .0) (c .before .before .before .before .before .before .before .before .take-place .ensures .1) (c .before .before .before .list-choice .ensures)
 
 list-place-element-copy-out-choosers : (t : ℕ) → list-place-lts.Need-element-copy-out-choosers (
   place-at-reads.Asked,
@@ -318,7 +321,7 @@ list-place-sub-next-open : (t : ℕ) → list-place-lts.Need-sub-next-open (
   list-place.Post,
 ) (list-place-at t) list-place.Post
 list-place-sub-next-open t c =
-    omega (arith, c .before .before .before .before .before .before .before .before .before .before .before .before .before .before .before .before .pre .1 .1 .some)
+    c .before .before .before .before .before .before .before .before .before .before .before .before .before .before .before .before .pre .1 .1 .some
 
 list-place-next-open-requires : (t : ℕ) → list-place-lts.Need-next-open-requires (
   place-at-reads.Asked,
@@ -335,8 +338,7 @@ list-place-next-open-requires : (t : ℕ) → list-place-lts.Need-next-open-requ
   list-place.Post,
 ) (list-place-at t) list-place.Post
 list-place-next-open-requires t c κs =
-    let s = c .before .before .before .before .before .before .before .before .before .before .before .before .before .before .before .before .before in
-    (walks-back (s .args .choice) (s .args .left) (s .pre .1 .0) (s .pre .1 .1) (c .before .before .before .before .before .before .before .before .before .before .before .before .before .before .place-at .ensures) (c .before .before .before .before .before .before .before .before .before .before .before .take-place .ensures .0) (c .before .before .before .before .before .before .before .before .before .before .before .take-place .ensures .1) (c .before .before .before .before .before .before .list-choice .ensures) (c .before .before .leave-place .ensures), omega (arith, s .pre .1 .1 .few))
+    tt
 
 list-place-same-length : (t : ℕ) → list-place-lts.Need-same-length (
   place-at-reads.Asked,
@@ -371,7 +373,7 @@ list-place-returns : (t : ℕ) → list-place-lts.Need-returns (
 ) (list-place-at t) list-place.Post
 list-place-returns t c =
     let s = c .before .before .before .before .before .before .before .before .before .before .before .before .before .before .before .before .before .before .before in
-    none-left (s .args .choice) (s .args .left) (s .pre .1 .0) (s .pre .1 .1) (c .before .before .before .before .before .before .before .before .before .before .before .before .before .before .before .before .place-at .ensures) (c .before .before .before .before .before .before .before .before .before .before .before .before .before .take-place .ensures .0) (c .before .before .before .before .before .before .before .before .before .before .before .before .before .take-place .ensures .1) (c .before .before .before .before .before .before .before .before .list-choice .ensures) (c .before .before .before .before .leave-place .ensures) (c .before .next-open .ensures) (c .if1 .taken)
+    none-left (s .args .choice) (s .args .left) (s .pre .1 .0) (s .pre .1 .1) (place-told _ _ (s .pre .1 .1 .some) (c .before .before .before .before .before .before .before .before .before .before .before .before .before .before .before .before .place-at .ensures)) (c .before .before .before .before .before .before .before .before .before .before .before .before .before .take-place .ensures .0) (c .before .before .before .before .before .before .before .before .before .before .before .before .before .take-place .ensures .1) (c .before .before .before .before .before .before .before .before .list-choice .ensures) (c .before .before .before .before .leave-place .ensures) (open-told _ _ _ _ _ _ (s .pre .1 .0 .shaped .few-slots) _ (c .before .next-open .ensures)) (c .if1 .taken)
 
 list-place-list-place-requires : (t : ℕ) → list-place-lts.Need-list-place-requires (
   place-at-reads.Asked,
@@ -389,7 +391,7 @@ list-place-list-place-requires : (t : ℕ) → list-place-lts.Need-list-place-re
 ) (list-place-at t) list-place.Post
 list-place-list-place-requires t c κs =
     let s = c .before .before .before .before .before .before .before .before .before .before .before .before .before .before .before .before .before .before .before .before .before .before .before in
-    (omega (arith, s .pre .0, fewer (s .args .choice) (s .args .left) (s .pre .1 .0) (s .pre .1 .1) (c .before .before .before .before .before .before .before .before .before .before .before .before .before .before .before .before .before .before .before .before .place-at .ensures) (c .before .before .before .before .before .before .before .before .before .before .before .before .before .before .before .before .before .take-place .ensures .0) (c .before .before .before .before .before .before .before .before .before .before .before .before .before .before .before .before .before .take-place .ensures .1) (c .before .before .before .before .before .before .before .before .before .before .before .before .list-choice .ensures) (c .before .before .before .before .before .before .before .before .leave-place .ensures) (c .before .before .before .before .before .next-open .ensures)), rest-requires (s .args .choice) (s .args .left) (s .pre .1 .0) (s .pre .1 .1) (c .before .before .before .before .before .before .before .before .before .before .before .before .before .before .before .before .before .before .before .before .place-at .ensures) (c .before .before .before .before .before .before .before .before .before .before .before .before .before .before .before .before .before .take-place .ensures .0) (c .before .before .before .before .before .before .before .before .before .before .before .before .before .before .before .before .before .take-place .ensures .1) (c .before .before .before .before .before .before .before .before .before .before .before .before .list-choice .ensures) (c .before .before .before .before .before .before .before .before .leave-place .ensures) (c .before .before .before .before .before .next-open .ensures) (c .before .before .before .before .before .before .before .before .before .before .before .before .list-choice .kept .1 .1 .1 .1 .1 .1 .1 .1 .1 .0) (c .before .before .before .before .if1 .left))
+    (to-next t (length (s .args .mins .now .now)) (s .args .choice) (s .args .left) _ (s .pre .0) (fewer (s .args .choice) (s .args .left) (s .pre .1 .0) (s .pre .1 .1) (place-told _ _ (s .pre .1 .1 .some) (c .before .before .before .before .before .before .before .before .before .before .before .before .before .before .before .before .before .before .before .before .place-at .ensures)) (c .before .before .before .before .before .before .before .before .before .before .before .before .before .before .before .before .before .take-place .ensures .0) (c .before .before .before .before .before .before .before .before .before .before .before .before .before .before .before .before .before .take-place .ensures .1) (c .before .before .before .before .before .before .before .before .before .before .before .before .list-choice .ensures) (c .before .before .before .before .before .before .before .before .leave-place .ensures) (open-told _ _ _ _ _ _ (s .pre .1 .0 .shaped .few-slots) _ (c .before .before .before .before .before .next-open .ensures))), rest-requires (s .args .choice) (s .args .left) (s .pre .1 .0) (s .pre .1 .1) (place-told _ _ (s .pre .1 .1 .some) (c .before .before .before .before .before .before .before .before .before .before .before .before .before .before .before .before .before .before .before .before .place-at .ensures)) (c .before .before .before .before .before .before .before .before .before .before .before .before .before .before .before .before .before .take-place .ensures .0) (c .before .before .before .before .before .before .before .before .before .before .before .before .before .before .before .before .before .take-place .ensures .1) (c .before .before .before .before .before .before .before .before .before .before .before .before .list-choice .ensures) (c .before .before .before .before .before .before .before .before .leave-place .ensures) (open-told _ _ _ _ _ _ (s .pre .1 .0 .shaped .few-slots) _ (c .before .before .before .before .before .next-open .ensures)) (c .before .before .before .before .before .before .before .before .before .before .before .before .list-choice .kept .1 .1 .1 .1 .1 .1 .1 .1 .1 .0) (c .before .before .before .before .if1 .left))
 
 list-place-same-length-2 : (t : ℕ) → list-place-lts.Need-same-length-2 (
   place-at-reads.Asked,
@@ -424,7 +426,7 @@ list-place-returns-2 : (t : ℕ) → list-place-lts.Need-returns-2 (
 ) (list-place-at t) list-place.Post
 list-place-returns-2 t c =
     let s = c .before .before .before .before .before .before .before .before .before .before .before .before .before .before .before .before .before .before .before .before .before .before .before .before .before .before in
-    listing-rest (s .args .choice) (s .args .left) (s .pre .1 .0) (s .pre .1 .1) (c .before .before .before .before .before .before .before .before .before .before .before .before .before .before .before .before .before .before .before .before .before .before .before .place-at .ensures) (c .before .before .before .before .before .before .before .before .before .before .before .before .before .before .before .before .before .before .before .before .take-place .ensures .0) (c .before .before .before .before .before .before .before .before .before .before .before .before .before .before .before .before .before .before .before .before .take-place .ensures .1) (c .before .before .before .before .before .before .before .before .before .before .before .before .before .before .before .list-choice .ensures) (c .before .before .before .before .before .before .before .before .before .before .before .leave-place .ensures) (c .before .before .before .before .before .before .before .before .next-open .ensures) (c .before .before .list-place .ensures)
+    listing-rest (s .args .choice) (s .args .left) (s .pre .1 .0) (s .pre .1 .1) (place-told _ _ (s .pre .1 .1 .some) (c .before .before .before .before .before .before .before .before .before .before .before .before .before .before .before .before .before .before .before .before .before .before .before .place-at .ensures)) (c .before .before .before .before .before .before .before .before .before .before .before .before .before .before .before .before .before .before .before .before .take-place .ensures .0) (c .before .before .before .before .before .before .before .before .before .before .before .before .before .before .before .before .before .before .before .before .take-place .ensures .1) (c .before .before .before .before .before .before .before .before .before .before .before .before .before .before .before .list-choice .ensures) (c .before .before .before .before .before .before .before .before .before .before .before .leave-place .ensures) (open-told _ _ _ _ _ _ (s .pre .1 .0 .shaped .few-slots) _ (c .before .before .before .before .before .before .before .before .next-open .ensures)) (c .before .before .list-place .ensures)
 
 pub +list-choice+list-place-spec : {M : Type 1} → statement M
 +list-choice+list-place-spec = close μ-list-choice μ-list-place (λ t. list-choice-lts.spec (

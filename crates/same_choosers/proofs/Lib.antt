@@ -1,0 +1,4 @@
+pub mod Joining
+pub mod Copying
+pub mod Bounds
+pub mod Fitting
