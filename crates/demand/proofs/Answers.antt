@@ -7,10 +7,10 @@ use borrow.Author.Tests.{leb-true, leb-false}
 use lib.Dec.{leb}
 use Rattle.constraint.specs.Told.{outcome}
 use Rattle.search_input.specs.Given.{Given}
-use Rattle.scheduling_solver.specs.Calls.{figures, plan, noPlan, outOfTurns, searchedTells, searchOf}
-use Rattle.scheduling_solver.specs.declared.search.Settings.{Settings}
-use Rattle.scheduling_solver.specs.declared.search.Searched.{Searched}
-use Rattle.scheduling_solver.specs.declared.search.Searched.the-variants as searched
+use Rattle.demand.specs.Calls.{figures, plan, noPlan, outOfTurns, searchedTells, searchOf}
+use Rattle.search_input.specs.declared.settings.Settings.{Settings}
+use Rattle.search_input.specs.declared.answer.Searched.{Searched}
+use Rattle.search_input.specs.declared.answer.Searched.the-variants as searched
 use Rattle.demand.specs.Demand.{turnsThatSettle, OwnMap}
 use Rattle.demand.specs.Answer.{AnswerSays}
 use Rattle.demand.proofs.DemandHolds.{demand}

@@ -33,8 +33,8 @@ use Rattle.pass_rules.proofs.Settles.{found-good, none-good, not-cut, found-lea
 use Rattle.search_passes.proofs.Settled.{Enough}
 use Rattle.search_input.specs.Given.{Given, rowCounts, planDay, setsDay}
 use Rattle.search_input.proofs.JudgedLaws.{DayKeeps, LentKeeps}
-use Rattle.scheduling_solver.specs.Search.{setsOf, setsAt, rowsCounted, orderOf, lentAt, passAt}
-use Rattle.scheduling_solver.specs.declared.search.Settings.{Settings}
+use Rattle.demand.specs.Search.{setsOf, setsAt, rowsCounted, orderOf, lentAt, passAt}
+use Rattle.search_input.specs.declared.settings.Settings.{Settings}
 use Rattle.demand.specs.Demand.{OwnMap}
 
 -- a row of kind 6 names a slot of the day, as the table asks

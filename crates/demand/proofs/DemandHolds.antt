@@ -21,9 +21,9 @@ use Rattle.search_passes.proofs.Settled.{Says, said, out-short}
 use Rattle.search_input.specs.Given.{Given, planDay, setsDay}
 use Rattle.search_input.specs.Judged.{dayJudged, lentJudged}
 use Rattle.search_input.proofs.JudgedLaws.{DayKeeps, LentKeeps, day-keeps, lent-keeps}
-use Rattle.scheduling_solver.specs.Search.{startOf, levelsAbove, lentAt, passAt, endingOf}
-use Rattle.scheduling_solver.specs.Calls.{Figures, Settled, plan, noPlan, outOfTurns, settledBy, planLeft, setsFit, searchJudged, searchOf}
-use Rattle.scheduling_solver.specs.declared.search.Settings.{Settings}
+use Rattle.demand.specs.Search.{startOf, levelsAbove, lentAt, passAt, endingOf}
+use Rattle.demand.specs.Calls.{Figures, Settled, plan, noPlan, outOfTurns, settledBy, planLeft, setsFit, searchJudged, searchOf}
+use Rattle.search_input.specs.declared.settings.Settings.{Settings}
 use Rattle.demand.specs.Demand.{startsOf, turnsThatSettle, SuchPlan, OwnMap, Settles, Demand}
 use Rattle.demand.proofs.Limits.{above-few, call-last}
 use Rattle.demand.proofs.CallPasses.{pass-sound, pass-complete, pass-enough}

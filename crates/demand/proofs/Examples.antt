@@ -36,10 +36,10 @@ use Rattle.pass_rules.specs.Pass.{choiceAt, remainingAt, depthAt, askedAt, cand
 use Rattle.search_passes.specs.Passes.{passesFrom}
 use Rattle.search_input.specs.Given.{Given, planDay}
 use Rattle.search_input.specs.Judged.{searchInRange, searchLengths, dayJudged, lentJudged}
-use Rattle.scheduling_solver.specs.Search as search
-use Rattle.scheduling_solver.specs.Search.{levelsAbove, setsAt, rowsCounted, orderOf, lentAt, passAt, endingOf}
-use Rattle.scheduling_solver.specs.Calls.{figures, Settled, plan, noPlan, outOfTurns, searchJudged, searchOf}
-use Rattle.scheduling_solver.specs.declared.search.Settings.{Settings}
+use Rattle.demand.specs.Search as search
+use Rattle.demand.specs.Search.{levelsAbove, setsAt, rowsCounted, orderOf, lentAt, passAt, endingOf}
+use Rattle.demand.specs.Calls.{figures, Settled, plan, noPlan, outOfTurns, searchJudged, searchOf}
+use Rattle.search_input.specs.declared.settings.Settings.{Settings}
 use Rattle.demand.specs.Demand.{startsOf, turnsThatSettle, OwnMap, Settles}
 use Rattle.demand.proofs.DemandHolds.{demand}
 

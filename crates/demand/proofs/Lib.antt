@@ -3,3 +3,4 @@ pub mod CallPasses
 pub mod DemandHolds
 pub mod Answers
 pub mod Examples
+pub mod AnswerBack

@@ -19,8 +19,8 @@ use Rattle.critical_set_analysis.specs.declared.analysis.Analysis.{Analysis}
 use Rattle.critical_set_analysis.specs.declared.analysis.Analysis.the-variants as mode
 use Rattle.search_passes.proofs.Settled.{lastLimit}
 use Rattle.search_input.specs.Given.{Given, setsDay}
-use Rattle.scheduling_solver.specs.Search.{lowestOf, startOf, levelsAbove}
-use Rattle.scheduling_solver.specs.declared.search.Settings.{Settings}
+use Rattle.demand.specs.Search.{lowestOf, startOf, levelsAbove}
+use Rattle.search_input.specs.declared.settings.Settings.{Settings}
 
 -- ---- the last limit
 

@@ -2,8 +2,8 @@
 use mathlib.Core.List.{List}
 use Prim.Native.Nat.{ℕ, _<_}
 use Rattle.search_input.specs.Given.{Given}
-use Rattle.scheduling_solver.specs.declared.search.Searched.{Searched}
-use Rattle.scheduling_solver.specs.declared.search.Searched.the-variants as searched
+use Rattle.search_input.specs.declared.answer.Searched.{Searched}
+use Rattle.search_input.specs.declared.answer.Searched.the-variants as searched
 use Rattle.demand.specs.Demand.{turnsThatSettle, SuchPlan}
 
 -- found: the plan left is such a plan; none: there is no such plan; out of turns: fewer than (L+1)(2T+1) were allowed; a refusal says nothing of plans

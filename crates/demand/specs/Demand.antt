@@ -11,8 +11,8 @@ use Rattle.search_walk.specs.Turns.{sumOfPowers}
 use Rattle.constraint_map.specs.Map.{Map}
 use Rattle.constraint_map.specs.Calls.{ownMapOf}
 use Rattle.search_input.specs.Given.{Given, rowCounts, planDay}
-use Rattle.scheduling_solver.specs.Calls.{Figures, Settled, plan, noPlan, outOfTurns, searchOf}
-use Rattle.scheduling_solver.specs.declared.search.Settings.{Settings}
+use Rattle.demand.specs.Calls.{Figures, Settled, plan, noPlan, outOfTurns, searchOf}
+use Rattle.search_input.specs.declared.settings.Settings.{Settings}
 
 -- T = (S+1) + (S+1)^2 + .. + (S+1)^C, or 0 if C is 0
 unfoldable pub startsOf : Given → ℕ

@@ -1,2 +1,4 @@
+pub mod Search
+pub mod Calls
 pub mod Demand
 pub mod Answer

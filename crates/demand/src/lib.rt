@@ -1,1 +1,1 @@
-// No code: demand 3, that the full search settles a day, in specs/, and its proof, in proofs/.
+// No code: the search as a call, by its definition, and demand 3, that the full search settles a day, in specs/; its proof in proofs/.

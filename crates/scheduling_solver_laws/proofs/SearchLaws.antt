@@ -26,9 +26,9 @@ use Rattle.search_passes.proofs.Within.{endingPass, passes-within}
 use Rattle.search_input.specs.Given.{Given, planDay, setsDay}
 use Rattle.search_input.specs.Judged.{dayJudged, lentJudged}
 use Rattle.search_input.proofs.JudgedLaws.{DayKeeps, LentKeeps, day-keeps, lent-keeps}
-use Rattle.scheduling_solver.specs.Search.{startOf, levelsAbove, lentAt, passAt, endingOf}
-use Rattle.scheduling_solver.specs.Calls.{Figures, figures, Settled, plan, noPlan, outOfTurns, settledBy, planLeft, setsFit, searchJudged, searchOf}
-use Rattle.scheduling_solver.specs.declared.search.Settings.{Settings}
+use Rattle.demand.specs.Search.{startOf, levelsAbove, lentAt, passAt, endingOf}
+use Rattle.demand.specs.Calls.{Figures, figures, Settled, plan, noPlan, outOfTurns, settledBy, planLeft, setsFit, searchJudged, searchOf}
+use Rattle.search_input.specs.declared.settings.Settings.{Settings}
 use Rattle.scheduling_solver_laws.proofs.PassLaws.{hit-feasible}
 
 -- the figures of an answer

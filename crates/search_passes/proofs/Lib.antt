@@ -1,4 +1,5 @@
--- The laws of passes one after the other: one equation a branch, one induction, and what it gives.
+-- The laws of passes one after the other: what the answer says, one equation a branch, one induction, and what it gives.
+pub mod Answers
 pub mod PassesLaws
 pub mod Induction
 pub mod Within

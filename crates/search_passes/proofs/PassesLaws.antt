@@ -1,12 +1,10 @@
 -- Passes one after the other, one equation for each way that a pass ends, as a loop over the levels left meets them.
 use mathlib.Core.Path.{_≡_}
-use mathlib.Core.Bool.{true, false}
 use mathlib.Core.List.{List, [], _∷_}
 use Prim.Native.Nat.{ℕ, suc, _+_, _-_, _≤_, _<_, min}
 use borrow.Author.Tests.{le-leb, lt-leb}
-use lib.Dec.{leb}
 use Rattle.search_walk.specs.Walk.{Out, hit, dry, cut}
-use Rattle.search_passes.specs.Passes.{Ending, found, none, out, passesFrom}
+use Rattle.search_passes.specs.Passes.{found, none, out, passesFrom}
 
 module _ (passAt : ℕ → ℕ → ℕ → ℕ → Out) (budget : ℕ) (limit pass left draw : ℕ) where
   -- ---- the pass at the last level: all turns that are left

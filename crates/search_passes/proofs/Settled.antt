@@ -1,7 +1,7 @@
--- What a call's answer says: found is a plan, none says what a pass without a plan at the last limit says, and turns run out only under so many for each pass.
-use mathlib.Core.Path.{_≡_, refl, sym, _∙_}
+-- A call settles: what its answer says is true, and turns run out only under so many for each pass.
+use mathlib.Core.Path.{_≡_, refl}
 use mathlib.Core.Bool.{Bool, true, false}
-use mathlib.Core.List.{List, [], _∷_}
+use mathlib.Core.List.{List, _∷_}
 use Prim.Native.Nat.{ℕ, suc, _+_, _-_, _*_, _≤_, _<_, min}
 use native.Mathlib.Nat.{suc-mul}
 use native.Mathlib.Omega.{arith}
@@ -11,55 +11,14 @@ use lib.ListN.{length}
 use Rattle.search_walk.specs.Walk.{Out, hit, dry, cut}
 use Rattle.search_passes.specs.Passes.{Ending, found, none, out, passesFrom}
 use Rattle.search_passes.proofs.Induction.{Kept, passes-ind}
-
--- the limit of the last pass that a call may make
-unfoldable pub lastLimit : ℕ → List ℕ → ℕ
-lastLimit limit [] = limit
-lastLimit limit (next ∷ above) = lastLimit next above
+unfoldable pub use Rattle.search_passes.proofs.Answers.{lastLimit}
+pub use Rattle.search_passes.proofs.Answers.{Says, said, found-says, none-says}
 
 -- a pass that had enough turns, p of them, wasn't cut and spent no more
 abbrev pub Enough : ℕ → ℕ → Out → Type 0
 Enough p turns (hit left places drawn) = turns ≤ left + p
 Enough p turns (dry left drawn) = turns ≤ left + p
 Enough p turns (cut drawn) = ⊥
-
--- what each answer says: found of its limit, pass and places; none; and out of turns
-abbrev pub Says : (ℕ → ℕ → List ℕ → Type 0) → Type 0 → Type 0 → Ending → Type 0
-Says Plan None Short (found left pass limit places) = Plan limit pass places
-Says Plan None Short (none left pass limit) = None
-Says Plan None Short (out pass limit) = Short
-
-module _ (passAt : ℕ → ℕ → ℕ → ℕ → Out) (budget : ℕ)
-    (Plan : ℕ → ℕ → List ℕ → Type 0)
-    (sound : (limit pass turns draw left : ℕ) (places : List ℕ) (draw′ : ℕ) → passAt limit pass turns draw ≡ hit left places draw′ → Plan limit pass places)
-    (last : ℕ) (None : Type 0)
-    (dry-says : (pass turns draw left draw′ : ℕ) → passAt last pass turns draw ≡ dry left draw′ → None) where
-  -- the levels left lead to the last limit
-  said-kept : Kept passAt budget (λ above limit pass left draw. lastLimit limit above ≡ last) (Says Plan None (Unit {0}))
-  unfolding lastLimit
-  said-kept =
-      record {
-        last-hit = λ limit pass left draw spared places draw′ s e. sound limit pass left draw spared places draw′ e;
-        last-dry = λ limit pass left draw spared draw′ s e. dry-says pass left draw spared draw′ (rw (sym s) e);
-        last-cut = λ limit pass left draw draw′ s e. tt;
-        hits = λ next above limit pass left draw spared places draw′ s e. sound limit pass (min left budget) draw spared places draw′ e;
-        goes-on = λ next above limit pass left draw spared draw′ s e. s;
-        runs-out = λ next above limit pass left draw draw′ s e h. tt;
-        is-cut = λ next above limit pass left draw draw′ s e h. s;
-      }
-
-  -- on any budgets: a plan or a none is true
-  pub said : (above : List ℕ) (limit pass left draw : ℕ) → lastLimit limit above ≡ last → Says Plan None (Unit {0}) (passesFrom passAt budget above limit pass left draw)
-  said = passes-ind passAt budget (λ above limit pass left draw. lastLimit limit above ≡ last) (Says Plan None (Unit {0})) said-kept
-
-  -- each by itself
-  pub found-says : (above : List ℕ) (limit pass left draw left′ pass′ limit′ : ℕ) (places : List ℕ) → lastLimit limit above ≡ last
-      → passesFrom passAt budget above limit pass left draw ≡ found left′ pass′ limit′ places → Plan limit′ pass′ places
-  found-says above limit pass left draw left′ pass′ limit′ places s e = rw e at (said above limit pass left draw s)
-
-  pub none-says : (above : List ℕ) (limit pass left draw left′ pass′ limit′ : ℕ) → lastLimit limit above ≡ last
-      → passesFrom passAt budget above limit pass left draw ≡ none left′ pass′ limit′ → None
-  none-says above limit pass left draw left′ pass′ limit′ s e = rw e at (said above limit pass left draw s)
 
 -- a call that settles, and spends at most so many of its turns
 abbrev pub Settles : ℕ → ℕ → Ending → Type 0

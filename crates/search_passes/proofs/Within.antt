@@ -1,10 +1,10 @@
 -- A call leaves no more turns than it is given, and makes no more passes than there are levels above its start, and one.
-use mathlib.Core.Path.{_≡_, sym}
-use mathlib.Core.List.{List, [], _∷_}
-use Prim.Native.Nat.{ℕ, suc, _+_, _-_, _≤_, min}
+use mathlib.Core.Path.{_≡_}
+use mathlib.Core.List.{List}
+use Prim.Native.Nat.{ℕ, _+_, _≤_}
 use native.Mathlib.Omega.{arith}
 use lib.ListN.{length}
-use Rattle.search_walk.specs.Walk.{Out, hit, dry, cut, turnsLeft}
+use Rattle.search_walk.specs.Walk.{Out, hit, dry, turnsLeft}
 use Rattle.search_passes.specs.Passes.{Ending, found, none, out, passesFrom}
 use Rattle.search_passes.proofs.Induction.{Kept, passes-ind}
 

@@ -1,13 +1,13 @@
 -- The closing turn: at which states a walk ends by it, and that a pass without a plan ends so or is over.
 use mathlib.Core.Path.{_≡_, refl, sym, _∙_}
 use mathlib.Core.Bool.{Bool, true, false, false≢true}
-use mathlib.Core.List.{List, [], _∷_}
+use mathlib.Core.List.{List, []}
 use mathlib.Core.Logic.{_⊎_, inl, inr, ⊎-elim}
 use Prim.Native.Nat.{ℕ, zero, suc}
-use Rattle.search_walk.specs.Walk.{Sight, goal, over, on, Out, hit, dry, cut, turn, opened, used, pass}
+use Rattle.search_walk.specs.Walk.{Sight, goal, over, on, Out, hit, dry, cut, Turn, moves, closes, pass}
 use Rattle.search_walk.specs.Closing.{walkCloses, passCloses}
-use Rattle.search_walk.proofs.WalkLaws.{pass-walk}
-use Rattle.search_walk.proofs.Induction.{Kept, walk-ind}
+use Rattle.search_walk.proofs.WalkSteps.{turnFrom, pass-walk}
+use Rattle.search_walk.proofs.Induction.{After, Kept, walk-ind}
 
 module _ (sight : List ℕ → Sight) (bucket : List ℕ → ℕ → List ℕ) (draws : List ℕ → ℕ → ℕ) where
   -- not at a plan
@@ -27,31 +27,18 @@ module _ (sight : List ℕ → Sight) (bucket : List ℕ → ℕ → List ℕ) (
   unfolding walkCloses
   closes-cut new places candidates drawn = refl
 
-  -- at depth 0 with no candidate
-  pub closes-close : (left : ℕ) (new : Bool) (candidates shallower : List (List ℕ)) (drawn : ℕ) → sight [] ≡ on → opened bucket new [] candidates drawn ≡ [] ∷ shallower
-      → walkCloses sight bucket draws (suc left) new [] candidates drawn ≡ true
-  unfolding walkCloses turn
-  closes-close left new candidates shallower drawn e o = rw (e, walkCloses, o)
+  -- by the closing turn
+  pub closes-closes : (left : ℕ) (new : Bool) (places : List ℕ) (candidates : List (List ℕ)) (drawn drawn′ : ℕ) → sight places ≡ on
+      → turnFrom bucket draws new places candidates drawn ≡ closes drawn′ → walkCloses sight bucket draws (suc left) new places candidates drawn ≡ true
+  unfolding walkCloses
+  closes-closes left new places candidates drawn drawn′ e t = rw (e, walkCloses, t)
 
-  -- and where at no depth are candidates left, which no pass meets
-  pub closes-none : (left : ℕ) (new : Bool) (places : List ℕ) (candidates : List (List ℕ)) (drawn : ℕ) → sight places ≡ on → opened bucket new places candidates drawn ≡ []
-      → walkCloses sight bucket draws (suc left) new places candidates drawn ≡ true
-  unfolding walkCloses turn
-  closes-none left new places candidates drawn e o = rw (e, walkCloses, o)
-
-  -- a step back goes on
-  pub closes-back : (left : ℕ) (new : Bool) (last : ℕ) (places : List ℕ) (candidates shallower : List (List ℕ)) (drawn : ℕ) → sight (last ∷ places) ≡ on
-      → opened bucket new (last ∷ places) candidates drawn ≡ [] ∷ shallower
-      → walkCloses sight bucket draws (suc left) new (last ∷ places) candidates drawn ≡ walkCloses sight bucket draws left false places shallower (used draws new (last ∷ places) drawn)
-  unfolding walkCloses turn
-  closes-back left new last places candidates shallower drawn e o = rw (e, walkCloses, o)
-
-  -- and a step down
-  pub closes-down : (left : ℕ) (new : Bool) (place : ℕ) (rest places : List ℕ) (candidates shallower : List (List ℕ)) (drawn : ℕ) → sight places ≡ on
-      → opened bucket new places candidates drawn ≡ (place ∷ rest) ∷ shallower
-      → walkCloses sight bucket draws (suc left) new places candidates drawn ≡ walkCloses sight bucket draws left true (place ∷ places) (rest ∷ shallower) (used draws new places drawn)
-  unfolding walkCloses turn
-  closes-down left new place rest places candidates shallower drawn e o = rw (e, walkCloses, o)
+  -- after any other turn as from the state that it goes to
+  pub closes-moves : (left : ℕ) (new : Bool) (places : List ℕ) (candidates : List (List ℕ)) (drawn : ℕ) (new′ : Bool) (places′ : List ℕ) (candidates′ : List (List ℕ)) (drawn′ : ℕ) → sight places ≡ on
+      → turnFrom bucket draws new places candidates drawn ≡ moves new′ places′ candidates′ drawn′
+      → walkCloses sight bucket draws (suc left) new places candidates drawn ≡ walkCloses sight bucket draws left new′ places′ candidates′ drawn′
+  unfolding walkCloses
+  closes-moves left new places candidates drawn new′ places′ candidates′ drawn′ e t = rw (e, walkCloses, t)
 
   -- a pass closes as the walk from no place decided
   pub pass-closes : (budget drawn : ℕ) → passCloses sight bucket draws budget drawn ≡ walkCloses sight bucket draws budget true [] [] drawn
@@ -66,6 +53,14 @@ module _ (sight : List ℕ → Sight) (bucket : List ℕ → ℕ → List ℕ) (
   ClosesOr closed (dry left drawn) = (closed ≡ true) ⊎ ((closed ≡ false) × ((places : List ℕ) × (sight places ≡ over)))
   ClosesOr closed (cut drawn) = closed ≡ false
 
+  -- after a turn too
+  closes-after : (closed : Bool) (left : ℕ) (new : Bool) (places : List ℕ) (candidates : List (List ℕ)) (drawn : ℕ) (done : Turn) → sight places ≡ on
+      → walkCloses sight bucket draws (suc left) new places candidates drawn ≡ closed → turnFrom bucket draws new places candidates drawn ≡ done
+      → After (λ left new places candidates drawn. walkCloses sight bucket draws left new places candidates drawn ≡ closed) (ClosesOr closed) left done
+  closes-after closed left new places candidates drawn (moves new′ places′ candidates′ drawn′) e f t =
+      sym (closes-moves left new places candidates drawn new′ places′ candidates′ drawn′ e t) ∙ f
+  closes-after closed left new places candidates drawn (closes drawn′) e f t = inl (sym f ∙ closes-closes left new places candidates drawn drawn′ e t)
+
   -- step by step
   closes-kept : (closed : Bool) → Kept sight bucket draws (λ left new places candidates drawn. walkCloses sight bucket draws left new places candidates drawn ≡ closed) (ClosesOr closed)
   closes-kept closed =
@@ -73,10 +68,7 @@ module _ (sight : List ℕ → Sight) (bucket : List ℕ → ℕ → List ℕ) (
         at-goal = λ left new places candidates drawn f e. sym f ∙ closes-goal left new places candidates drawn e;
         at-over = λ left new places candidates drawn f e. inr (sym f ∙ closes-over left new places candidates drawn e, (places, e));
         at-cut = λ new places candidates drawn f e. sym f ∙ closes-cut new places candidates drawn;
-        at-none = λ left new places candidates drawn f e o. inl (sym f ∙ closes-none left new places candidates drawn e o);
-        at-close = λ left new candidates shallower drawn f e o. inl (sym f ∙ closes-close left new candidates shallower drawn e o);
-        back = λ left new last places candidates shallower drawn f e o. sym (closes-back left new last places candidates shallower drawn e o) ∙ f;
-        down = λ left new place rest places candidates shallower drawn f e o. sym (closes-down left new place rest places candidates shallower drawn e o) ∙ f;
+        at-turn = λ left new places candidates drawn f e. closes-after closed left new places candidates drawn (turnFrom bucket draws new places candidates drawn) e f refl;
       }
 
   -- the same of a pass

@@ -4,9 +4,9 @@ use mathlib.Core.Bool.{Bool, true, false}
 use mathlib.Core.List.{List, [], _∷_, List·Memᴰ, List·Memᴰ·cases-cons, List·Memᴰ·not-nil}
 use mathlib.Core.Logic.{_⊎_, inl, inr, ⊎-elim}
 use Prim.Native.Nat.{ℕ}
-use Rattle.search_walk.specs.Walk.{Sight, over, on, Out, hit, dry, cut, opened, pass}
-use Rattle.search_walk.proofs.WalkLaws.{pass-walk}
-use Rattle.search_walk.proofs.Induction.{Kept, walk-ind}
+use Rattle.search_walk.specs.Walk.{Sight, over, on, Out, hit, dry, cut, Turn, moves, closes, turn, opened, used, pass}
+use Rattle.search_walk.proofs.WalkSteps.{pass-walk}
+use Rattle.search_walk.proofs.Induction.{After, Kept, walk-ind}
 
 -- plans of any type, and that a plan goes on from the places decided
 module _ {Q : Type 0} (GoesOn : List ℕ → Q → Type 0) where
@@ -45,10 +45,6 @@ module _ {Q : Type 0} (GoesOn : List ℕ → Q → Type 0) where
   ahead-cases bucket [] candidates plan h = inl h
   ahead-cases bucket (last ∷ places) candidates plan h = h
 
-  -- no candidate left at this depth
-  ahead-empty : (places : List ℕ) (candidates : List (List ℕ)) (plan : Q) → Ahead places ([] ∷ candidates) plan → Shallower places candidates plan
-  ahead-empty places candidates plan h = ⊎-elim (λ n. absurd (List·Memᴰ·not-nil (n .1))) (λ s. s) (ahead-cases [] places candidates plan h)
-
   -- the first candidate taken
   ahead-taken : (place : ℕ) (rest places : List ℕ) (candidates : List (List ℕ)) (plan : Q) → Ahead places ((place ∷ rest) ∷ candidates) plan → Meets true (place ∷ places) (rest ∷ candidates) plan
   ahead-taken place rest places candidates plan h =
@@ -56,6 +52,19 @@ module _ {Q : Type 0} (GoesOn : List ℕ → Q → Type 0) where
       (λ n. ⊎-elim (λ e. inl (rw e at (n .2))) (λ m. inr (ahead-next rest places candidates plan (n .0, m, n .2))) (List·Memᴰ·cases-cons (n .1)))
       (λ s. inr (ahead-shallower rest places candidates plan s))
       (ahead-cases (place ∷ rest) places candidates plan h)
+
+  -- after a turn the walk can still meet the plan, and the turn isn't the closing one
+  abbrev MeetsAfter : Turn → Q → Type 0
+  MeetsAfter (moves new places candidates drawn) plan = Meets new places candidates plan
+  MeetsAfter (closes drawn) plan = ⊥
+
+  -- no turn passes the plan by: a step back finds it at a shallower depth, a step down takes its candidate or leaves it for later
+  ahead-turn : (places : List ℕ) (made : List (List ℕ)) (drawn : ℕ) (plan : Q) → Ahead places made plan → MeetsAfter (turn places made drawn) plan
+  unfolding turn
+  ahead-turn places [] drawn plan h = h
+  ahead-turn [] ([] ∷ shallower) drawn plan h = List·Memᴰ·not-nil (h .1)
+  ahead-turn (last ∷ places) ([] ∷ shallower) drawn plan h = ⊎-elim (λ n. absurd (List·Memᴰ·not-nil (n .1))) (λ s. s) h
+  ahead-turn places ((place ∷ rest) ∷ shallower) drawn plan h = ahead-taken place rest places shallower plan h
 
 -- no good plan goes on from no place decided
 abbrev pub NoneGood : {Q : Type 0} → (Q → Type 0) → (List ℕ → Q → Type 0) → Type 0
@@ -84,25 +93,22 @@ module _ (sight : List ℕ → Sight) (bucket : List ℕ → ℕ → List ℕ) (
       (λ s. ahead-shallower GoesOn (bucket places drawn) places candidates plan s) m
   met-opened false places candidates drawn e plan good m = m
 
-  -- the same where it is known what they are
-  met-made : (new : Bool) (places : List ℕ) (candidates made : List (List ℕ)) (drawn : ℕ) → sight places ≡ on → opened bucket new places candidates drawn ≡ made
-      → AllMet 0 new places candidates drawn → (plan : Q) → Good plan → GoesOn [] plan → Ahead GoesOn places made plan
-  met-made new places candidates made drawn e o f plan good begins = rw o at (met-opened new places candidates drawn e plan good (f plan good begins))
+  -- every good plan met after a turn
+  all-after : (left : ℕ) (done : Turn) → ((plan : Q) → Good plan → GoesOn [] plan → MeetsAfter GoesOn done plan) → After AllMet (DryNone (NoneGood Good GoesOn)) left done
+  all-after left (moves new places candidates drawn) h = h
+  all-after left (closes drawn) h = h
 
-  -- each step keeps every good plan ahead
+  -- each turn keeps every good plan ahead
   met-kept : Kept sight bucket draws AllMet (DryNone (NoneGood Good GoesOn))
   met-kept =
       record {
         at-goal = λ left new places candidates drawn f e. tt;
         at-over = λ left new places candidates drawn f e. lone places e;
         at-cut = λ new places candidates drawn f e. tt;
-        at-none = λ left new places candidates drawn f e o. met-made new places candidates [] drawn e o f;
-        at-close = λ left new candidates shallower drawn f e o plan good begins.
-            ahead-empty GoesOn [] shallower plan (met-made new [] candidates ([] ∷ shallower) drawn e o f plan good begins);
-        back = λ left new last places candidates shallower drawn f e o plan good begins.
-            ahead-empty GoesOn (last ∷ places) shallower plan (met-made new (last ∷ places) candidates ([] ∷ shallower) drawn e o f plan good begins);
-        down = λ left new place rest places candidates shallower drawn f e o plan good begins.
-            ahead-taken GoesOn place rest places shallower plan (met-made new places candidates ((place ∷ rest) ∷ shallower) drawn e o f plan good begins);
+        at-turn = λ left new places candidates drawn f e.
+            let made = opened bucket new places candidates drawn in
+            all-after left (turn places made (used draws new places drawn))
+            (λ plan good begins. ahead-turn GoesOn places made (used draws new places drawn) plan (met-opened new places candidates drawn e plan good (f plan good begins)));
       }
 
   -- a pass that ends without a plan: there is no good one

@@ -1,5 +1,5 @@
--- The laws of the walk of one pass: the walk at each kind of state, one induction, and what it gives.
-pub mod WalkLaws
+-- The laws of the walk of one pass: one induction, what it gives, and the walk as a loop meets it.
+pub mod WalkSteps
 pub mod Induction
 pub mod Sound
 pub mod Complete
@@ -10,4 +10,5 @@ pub mod ClosingLaws
 pub mod TwoSights
 pub mod Reached
 pub mod SameWalk
+pub mod WalkLaws
 pub mod Examples

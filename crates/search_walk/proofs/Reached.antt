@@ -3,9 +3,9 @@ use mathlib.Core.Path.{_≡_, refl}
 use mathlib.Core.Bool.{Bool, true, false}
 use mathlib.Core.List.{List, [], _∷_, List·Memᴰ, List·Memᴰ·head, List·Memᴰ·tail}
 use Prim.Native.Nat.{ℕ}
-use Rattle.search_walk.specs.Walk.{Sight, on, hit, opened, pass}
-use Rattle.search_walk.proofs.WalkLaws.{pass-walk}
-use Rattle.search_walk.proofs.Induction.{Kept, walk-ind}
+use Rattle.search_walk.specs.Walk.{Sight, on, hit, Turn, moves, closes, turn, opened, used, pass}
+use Rattle.search_walk.proofs.WalkSteps.{turnFrom, pass-walk}
+use Rattle.search_walk.proofs.Induction.{After, Kept, walk-ind}
 use Rattle.search_walk.proofs.Sound.{Found}
 
 -- a property of the places decided
@@ -64,6 +64,19 @@ module _ (Fits : List ℕ → Type 0) where
         (λ other m. ready-each (place ∷ rest) places shallower r other (List·Memᴰ·tail m)) (ready-shallower (place ∷ rest) places shallower r),
   )
 
+  -- the state that a turn goes to is reached
+  abbrev pub ReachedAfter : Turn → Type 0
+  ReachedAfter (moves new places candidates drawn) = Reached new places candidates
+  ReachedAfter (closes drawn) = Unit {0}
+
+  -- a turn
+  ready-turn : (places : List ℕ) (made : List (List ℕ)) (drawn : ℕ) → Ready places made → ReachedAfter (turn places made drawn)
+  unfolding turn
+  ready-turn places [] drawn r = tt
+  ready-turn [] ([] ∷ shallower) drawn r = tt
+  ready-turn (last ∷ places) ([] ∷ shallower) drawn r = r .2
+  ready-turn places ((place ∷ rest) ∷ shallower) drawn r = ready-down place rest places shallower r
+
 module _ (sight : List ℕ → Sight) (bucket : List ℕ → ℕ → List ℕ) (draws : List ℕ → ℕ → ℕ) (Fits : List ℕ → Type 0)
     (begins : Fits []) (grows : (places : List ℕ) (drawn : ℕ) → sight places ≡ on → Fits places → Each Fits places (bucket places drawn)) where
   -- the candidates of a new depth made
@@ -73,22 +86,16 @@ module _ (sight : List ℕ → Sight) (bucket : List ℕ → ℕ → List ℕ) (
   ready-opened true places candidates drawn e r = ready-put Fits (bucket places drawn) places candidates (r .0) (grows places drawn e (r .0)) (r .1)
   ready-opened false places candidates drawn e r = r
 
-  -- the same where it is known what they are
-  ready-is : (new : Bool) (places : List ℕ) (candidates made : List (List ℕ)) (drawn : ℕ) → sight places ≡ on → opened bucket new places candidates drawn ≡ made
-      → Reached Fits new places candidates → Ready Fits places made
-  ready-is new places candidates made drawn e o r = rw o at (ready-opened new places candidates drawn e r)
+  -- each turn keeps it
+  pub reached-turn : (new : Bool) (places : List ℕ) (candidates : List (List ℕ)) (drawn : ℕ) → sight places ≡ on → Reached Fits new places candidates
+      → ReachedAfter Fits (turnFrom bucket draws new places candidates drawn)
+  reached-turn new places candidates drawn e r =
+      ready-turn Fits places (opened bucket new places candidates drawn) (used draws new places drawn) (ready-opened new places candidates drawn e r)
 
-  -- a step back keeps it
-  pub reached-back : (new : Bool) (last : ℕ) (places : List ℕ) (candidates shallower : List (List ℕ)) (drawn : ℕ) → sight (last ∷ places) ≡ on
-      → opened bucket new (last ∷ places) candidates drawn ≡ [] ∷ shallower → Reached Fits new (last ∷ places) candidates → Reached Fits false places shallower
-  reached-back new last places candidates shallower drawn e o r =
-      ready-shallower Fits [] (last ∷ places) shallower (ready-is new (last ∷ places) candidates ([] ∷ shallower) drawn e o r)
-
-  -- and a step down
-  pub reached-down : (new : Bool) (place : ℕ) (rest places : List ℕ) (candidates shallower : List (List ℕ)) (drawn : ℕ) → sight places ≡ on
-      → opened bucket new places candidates drawn ≡ (place ∷ rest) ∷ shallower → Reached Fits new places candidates → Reached Fits true (place ∷ places) (rest ∷ shallower)
-  reached-down new place rest places candidates shallower drawn e o r =
-      ready-down Fits place rest places shallower (ready-is new places candidates ((place ∷ rest) ∷ shallower) drawn e o r)
+  -- nothing is asked of the closing turn
+  reached-after : (left : ℕ) (done : Turn) → ReachedAfter Fits done → After (λ left new places candidates drawn. Reached Fits new places candidates) (Found Fits) left done
+  reached-after left (moves new places candidates drawn) r = r
+  reached-after left (closes drawn) r = tt
 
   -- step by step
   reached-kept : Kept sight bucket draws (λ left new places candidates drawn. Reached Fits new places candidates) (Found Fits)
@@ -97,10 +104,7 @@ module _ (sight : List ℕ → Sight) (bucket : List ℕ → ℕ → List ℕ) (
         at-goal = λ left new places candidates drawn f e. reached-fits Fits new places candidates f;
         at-over = λ left new places candidates drawn f e. tt;
         at-cut = λ new places candidates drawn f e. tt;
-        at-none = λ left new places candidates drawn f e o. tt;
-        at-close = λ left new candidates shallower drawn f e o. tt;
-        back = λ left new last places candidates shallower drawn f e o. reached-back new last places candidates shallower drawn e o f;
-        down = λ left new place rest places candidates shallower drawn f e o. reached-down new place rest places candidates shallower drawn e o f;
+        at-turn = λ left new places candidates drawn f e. reached-after left (turnFrom bucket draws new places candidates drawn) (reached-turn new places candidates drawn e f);
       }
 
   -- the places of a plan found have it

@@ -2,11 +2,11 @@
 use mathlib.Core.Path.{_≡_, refl, sym, _∙_, ap}
 use mathlib.Core.Bool.{Bool, true, false}
 use mathlib.Core.List.{List, [], _∷_}
-use Prim.Native.Nat.{ℕ}
-use Rattle.search_walk.specs.Walk.{Sight, on, Out, dry, opened, used, walk, pass}
-use Rattle.search_walk.proofs.WalkLaws.{walk-goal, walk-over, walk-cut, turn-close, turn-back, turn-down, turn-none, pass-walk}
-use Rattle.search_walk.proofs.Induction.{Kept, walk-ind}
-use Rattle.search_walk.proofs.Reached.{Each, Reached, reached-fits, reached-back, reached-down}
+use Prim.Native.Nat.{ℕ, suc}
+use Rattle.search_walk.specs.Walk.{Sight, on, Out, Turn, moves, closes, opened, used, walk, pass}
+use Rattle.search_walk.proofs.WalkSteps.{turnFrom, walk-goal, walk-over, walk-cut, walk-moves, walk-closes, pass-walk}
+use Rattle.search_walk.proofs.Induction.{After, Kept, walk-ind}
+use Rattle.search_walk.proofs.Reached.{Each, Reached, reached-fits, reached-turn}
 
 module _ (sight sight′ : List ℕ → Sight) (bucket bucket′ : List ℕ → ℕ → List ℕ) (draws draws′ : List ℕ → ℕ → ℕ) (Fits : List ℕ → Type 0)
     (begins : Fits []) (grows : (places : List ℕ) (drawn : ℕ) → sight places ≡ on → Fits places → Each Fits places (bucket places drawn))
@@ -26,9 +26,26 @@ module _ (sight sight′ : List ℕ → Sight) (bucket bucket′ : List ℕ → 
   used-same true places drawn e f = counts places drawn e f
   used-same false places drawn e f = refl
 
+  -- so their turns are the same
+  turn-same : (new : Bool) (places : List ℕ) (candidates : List (List ℕ)) (drawn : ℕ) → sight places ≡ on → Fits places
+      → turnFrom bucket′ draws′ new places candidates drawn ≡ turnFrom bucket draws new places candidates drawn
+  turn-same new places candidates drawn e f = rw (opened-same new places candidates drawn e f, used-same new places drawn e f)
+
   -- the other machine ends so from here on, and these places are reached
   abbrev SoFrom : Out → ℕ → Bool → List ℕ → List (List ℕ) → ℕ → Type 0
   SoFrom out left new places candidates drawn = Reached Fits new places candidates × (walk sight′ bucket′ draws′ left new places candidates drawn ≡ out)
+
+  -- after a turn too
+  so-after : (out : Out) (left : ℕ) (new : Bool) (places : List ℕ) (candidates : List (List ℕ)) (drawn : ℕ) (done : Turn) → sight places ≡ on
+      → SoFrom out (suc left) new places candidates drawn → turnFrom bucket draws new places candidates drawn ≡ done → After (SoFrom out) (λ mine. out ≡ mine) left done
+  so-after out left new places candidates drawn (moves new′ places′ candidates′ drawn′) e f t =
+      let h = reached-fits Fits new places candidates (f .0) in (
+        rw t at (reached-turn sight bucket draws Fits begins grows new places candidates drawn e (f .0)),
+        sym (walk-moves sight′ bucket′ draws′ left new places candidates drawn new′ places′ candidates′ drawn′ (sights places h ∙ e) (turn-same new places candidates drawn e h ∙ t)) ∙ f .1,
+      )
+  so-after out left new places candidates drawn (closes drawn′) e f t =
+      let h = reached-fits Fits new places candidates (f .0) in
+      sym (f .1) ∙ walk-closes sight′ bucket′ draws′ left new places candidates drawn drawn′ (sights places h ∙ e) (turn-same new places candidates drawn e h ∙ t)
 
   -- step by step
   same-kept : (out : Out) → Kept sight bucket draws (SoFrom out) (λ mine. out ≡ mine)
@@ -40,28 +57,7 @@ module _ (sight sight′ : List ℕ → Sight) (bucket bucket′ : List ℕ → 
             sym (f .1) ∙ walk-over sight′ bucket′ draws′ left new places candidates drawn (sights places (reached-fits Fits new places candidates (f .0)) ∙ e);
         at-cut = λ new places candidates drawn f e.
             sym (f .1) ∙ walk-cut sight′ bucket′ draws′ new places candidates drawn (sights places (reached-fits Fits new places candidates (f .0)) ∙ e);
-        at-none = λ left new places candidates drawn f e o.
-            let h = reached-fits Fits new places candidates (f .0) in
-            sym (f .1) ∙ turn-none sight′ bucket′ draws′ left new places candidates drawn (sights places h ∙ e) (opened-same new places candidates drawn e h ∙ o)
-            ∙ ap (dry left) (used-same new places drawn e h);
-        at-close = λ left new candidates shallower drawn f e o.
-            let h = reached-fits Fits new [] candidates (f .0) in
-            sym (f .1) ∙ turn-close sight′ bucket′ draws′ left new candidates shallower drawn (sights [] h ∙ e) (opened-same new [] candidates drawn e h ∙ o)
-            ∙ ap (dry left) (used-same new [] drawn e h);
-        back = λ left new last places candidates shallower drawn f e o.
-            let h = reached-fits Fits new (last ∷ places) candidates (f .0) in (
-              reached-back sight bucket draws Fits begins grows new last places candidates shallower drawn e o (f .0),
-              ap (walk sight′ bucket′ draws′ left false places shallower) (sym (used-same new (last ∷ places) drawn e h))
-                  ∙ sym (turn-back sight′ bucket′ draws′ left new last places candidates shallower drawn (sights (last ∷ places) h ∙ e) (opened-same new (last ∷ places) candidates drawn e h ∙ o))
-                  ∙ f .1,
-            );
-        down = λ left new place rest places candidates shallower drawn f e o.
-            let h = reached-fits Fits new places candidates (f .0) in (
-              reached-down sight bucket draws Fits begins grows new place rest places candidates shallower drawn e o (f .0),
-              ap (walk sight′ bucket′ draws′ left true (place ∷ places) (rest ∷ shallower)) (sym (used-same new places drawn e h))
-                  ∙ sym (turn-down sight′ bucket′ draws′ left new place rest places candidates shallower drawn (sights places h ∙ e) (opened-same new places candidates drawn e h ∙ o))
-                  ∙ f .1,
-            );
+        at-turn = λ left new places candidates drawn f e. so-after out left new places candidates drawn (turnFrom bucket draws new places candidates drawn) e f refl;
       }
 
   -- the passes end alike

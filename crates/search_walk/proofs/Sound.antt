@@ -2,11 +2,11 @@
 use mathlib.Core.Path.{_≡_, sym, _∙_}
 use mathlib.Core.Bool.{Bool, true, false}
 use mathlib.Core.List.{List, [], _∷_}
-use Prim.Native.Nat.{ℕ, _+_, _≤_}
+use Prim.Native.Nat.{ℕ, suc, _+_, _≤_}
 use native.Mathlib.Omega.{arith}
-use Rattle.search_walk.specs.Walk.{Sight, goal, Out, hit, dry, cut, used, walk, pass, turnsLeft, drawsUsed}
-use Rattle.search_walk.proofs.WalkLaws.{pass-walk}
-use Rattle.search_walk.proofs.Induction.{Kept, walk-ind}
+use Rattle.search_walk.specs.Walk.{Sight, goal, Out, hit, dry, cut, Turn, moves, closes, turn, opened, used, walk, pass, turnsLeft, drawsUsed}
+use Rattle.search_walk.proofs.WalkSteps.{turnFrom, pass-walk}
+use Rattle.search_walk.proofs.Induction.{After, Kept, walk-ind}
 
 -- if there is a plan, its places have the property
 abbrev pub Found : (List ℕ → Type 0) → Out → Type 0
@@ -22,16 +22,18 @@ used-once draws once false places drawn = omega arith
 
 module _ (sight : List ℕ → Sight) (bucket : List ℕ → ℕ → List ℕ) (draws : List ℕ → ℕ → ℕ) where
   -- nothing to keep: a plan is given at a goal only
+  sound-after : (left : ℕ) (done : Turn) → After (λ left new places candidates drawn. Unit {0}) (Found λ places. sight places ≡ goal) left done
+  sound-after left (moves new places candidates drawn) = tt
+  sound-after left (closes drawn) = tt
+
+  -- step by step
   sound-kept : Kept sight bucket draws (λ left new places candidates drawn. Unit {0}) (Found λ places. sight places ≡ goal)
   sound-kept =
       record {
         at-goal = λ left new places candidates drawn f e. e;
         at-over = λ left new places candidates drawn f e. tt;
         at-cut = λ new places candidates drawn f e. tt;
-        at-none = λ left new places candidates drawn f e o. tt;
-        at-close = λ left new candidates shallower drawn f e o. tt;
-        back = λ left new last places candidates shallower drawn f e o. tt;
-        down = λ left new place rest places candidates shallower drawn f e o. tt;
+        at-turn = λ left new places candidates drawn f e. sound-after left (turnFrom bucket draws new places candidates drawn);
       }
 
   -- the places of a plan found are at a goal, from any state on
@@ -45,6 +47,12 @@ module _ (sight : List ℕ → Sight) (bucket : List ℕ → ℕ → List ℕ) (
   hit-goal budget drawn left places drawn′ e = walk-hit-goal budget true [] [] drawn left places drawn′ (sym (pass-walk sight bucket draws budget drawn) ∙ e)
 
   -- the turns left fall
+  turns-after : (budget left : ℕ) (done : Turn) → suc left ≤ budget → After (λ left new places candidates drawn. left ≤ budget) (λ out. turnsLeft out ≤ budget) left done
+  unfolding turnsLeft
+  turns-after budget left (moves new places candidates drawn) h = omega arith
+  turns-after budget left (closes drawn) h = omega arith
+
+  -- step by step
   turns-kept : (budget : ℕ) → Kept sight bucket draws (λ left new places candidates drawn. left ≤ budget) (λ out. turnsLeft out ≤ budget)
   unfolding turnsLeft
   turns-kept budget =
@@ -52,10 +60,7 @@ module _ (sight : List ℕ → Sight) (bucket : List ℕ → ℕ → List ℕ) (
         at-goal = λ left new places candidates drawn f e. f;
         at-over = λ left new places candidates drawn f e. f;
         at-cut = λ new places candidates drawn f e. f;
-        at-none = λ left new places candidates drawn f e o. omega arith;
-        at-close = λ left new candidates shallower drawn f e o. omega arith;
-        back = λ left new last places candidates shallower drawn f e o. omega arith;
-        down = λ left new place rest places candidates shallower drawn f e o. omega arith;
+        at-turn = λ left new places candidates drawn f e. turns-after budget left (turnFrom bucket draws new places candidates drawn) f;
       }
 
   -- no more turns are left than there were
@@ -69,6 +74,15 @@ module _ (sight : List ℕ → Sight) (bucket : List ℕ → ℕ → List ℕ) (
 
   module _ (once : (places : List ℕ) (drawn : ℕ) → draws places drawn ≤ drawn + 1) where
     -- a turn for each draw
+    draws-turn : (sum left : ℕ) (places : List ℕ) (made : List (List ℕ)) (drawn : ℕ) → left + drawn ≤ sum
+        → After (λ left new places candidates drawn. left + drawn ≤ sum) (λ out. turnsLeft out + drawsUsed out ≤ sum) left (turn places made drawn)
+    unfolding turn turnsLeft drawsUsed
+    draws-turn sum left places [] drawn h = h
+    draws-turn sum left [] ([] ∷ shallower) drawn h = h
+    draws-turn sum left (last ∷ places) ([] ∷ shallower) drawn h = h
+    draws-turn sum left places ((place ∷ rest) ∷ shallower) drawn h = h
+
+    -- step by step
     draws-kept : (sum : ℕ) → Kept sight bucket draws (λ left new places candidates drawn. left + drawn ≤ sum) (λ out. turnsLeft out + drawsUsed out ≤ sum)
     unfolding turnsLeft drawsUsed
     draws-kept sum =
@@ -76,10 +90,8 @@ module _ (sight : List ℕ → Sight) (bucket : List ℕ → ℕ → List ℕ) (
           at-goal = λ left new places candidates drawn f e. f;
           at-over = λ left new places candidates drawn f e. f;
           at-cut = λ new places candidates drawn f e. f;
-          at-none = λ left new places candidates drawn f e o. omega (arith, used-once draws once new places drawn);
-          at-close = λ left new candidates shallower drawn f e o. omega (arith, used-once draws once new [] drawn);
-          back = λ left new last places candidates shallower drawn f e o. omega (arith, used-once draws once new (last ∷ places) drawn);
-          down = λ left new place rest places candidates shallower drawn f e o. omega (arith, used-once draws once new places drawn);
+          at-turn = λ left new places candidates drawn f e.
+              draws-turn sum left places (opened bucket new places candidates drawn) (used draws new places drawn) (omega (arith, used-once draws once new places drawn));
         }
 
     -- where a bucket uses at most one draw, a walk uses no more draws than turns

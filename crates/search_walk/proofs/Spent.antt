@@ -6,10 +6,10 @@ use Prim.Native.Nat.{ℕ, zero, suc, _+_, _*_, _≤_, _<_}
 use native.Mathlib.Omega.{arith}
 use native.Mathlib.Nat.{suc-mul}
 use lib.ListN.{length}
-use Rattle.search_walk.specs.Walk.{Sight, Out, hit, dry, cut, opened, pass}
+use Rattle.search_walk.specs.Walk.{Sight, Out, hit, dry, cut, turn, opened, used, pass}
 use Rattle.search_walk.specs.Turns.{turnsEnough}
-use Rattle.search_walk.proofs.WalkLaws.{pass-walk}
-use Rattle.search_walk.proofs.Induction.{Kept, walk-ind}
+use Rattle.search_walk.proofs.WalkSteps.{pass-walk}
+use Rattle.search_walk.proofs.Induction.{After, Kept, walk-ind}
 use Rattle.search_walk.proofs.Nodes.{nodes, cost, nodes-powers, cost-fewer}
 
 -- the turns that the candidates left take, the deepest of them k depths from the end
@@ -99,6 +99,14 @@ module _ (b C budget p : ℕ) where
       → Unmade b C budget p left (place ∷ places) (rest ∷ shallower)
   made-down left place rest places shallower m = down-turns (m .k) left place rest places shallower (m .below place rest shallower refl) (m .depth) (m .each) (m .enough)
 
+  -- a turn
+  made-turn : (left : ℕ) (places : List ℕ) (made : List (List ℕ)) (drawn : ℕ) → Made b C budget p (suc left) places made → After (InTime b C budget p) (Within budget p) left (turn places made drawn)
+  unfolding turn
+  made-turn left places [] drawn m = absurd (made-some (suc left) places m)
+  made-turn left [] ([] ∷ shallower) drawn m = omega (arith, made-one (suc left) [] ([] ∷ shallower) m)
+  made-turn left (last ∷ places) ([] ∷ shallower) drawn m = made-back left last places shallower m
+  made-turn left places ((place ∷ rest) ∷ shallower) drawn m = made-down left place rest places shallower m
+
 module _ (sight : List ℕ → Sight) (bucket : List ℕ → ℕ → List ℕ) (draws : List ℕ → ℕ → ℕ) (b C : ℕ)
     (small : (places : List ℕ) (drawn : ℕ) → length (bucket places drawn) ≤ b)
     (bottom : (places : List ℕ) (drawn : ℕ) → length places ≡ C → bucket places drawn ≡ []) where
@@ -126,11 +134,6 @@ module _ (sight : List ℕ → Sight) (bucket : List ℕ → ℕ → List ℕ) (
       }
   made-opened budget p left false places candidates drawn m = m
 
-  -- the same where it is known what they are
-  made-is : (budget p left : ℕ) (new : Bool) (places : List ℕ) (candidates made : List (List ℕ)) (drawn : ℕ) → opened bucket new places candidates drawn ≡ made
-      → InTime b C budget p left new places candidates drawn → Made b C budget p left places made
-  made-is budget p left new places candidates made drawn o f = rw o at (made-opened budget p left new places candidates drawn f)
-
   -- each turn uses one of those that are enough
   spent-kept : (budget p : ℕ) → Kept sight bucket draws (InTime b C budget p) (Within budget p)
   spent-kept budget p =
@@ -138,12 +141,8 @@ module _ (sight : List ℕ → Sight) (bucket : List ℕ → ℕ → List ℕ) (
         at-goal = λ left new places candidates drawn f e. omega (arith, state-one b C budget p left new places candidates drawn f);
         at-over = λ left new places candidates drawn f e. omega (arith, state-one b C budget p left new places candidates drawn f);
         at-cut = λ new places candidates drawn f e. omega (arith, state-one b C budget p 0 new places candidates drawn f);
-        at-none = λ left new places candidates drawn f e o. absurd (made-some b C budget p (suc left) places (made-is budget p (suc left) new places candidates [] drawn o f));
-        at-close = λ left new candidates shallower drawn f e o. omega (arith, state-one b C budget p (suc left) new [] candidates drawn f);
-        back = λ left new last places candidates shallower drawn f e o.
-            made-back b C budget p left last places shallower (made-is budget p (suc left) new (last ∷ places) candidates ([] ∷ shallower) drawn o f);
-        down = λ left new place rest places candidates shallower drawn f e o.
-            made-down b C budget p left place rest places shallower (made-is budget p (suc left) new places candidates ((place ∷ rest) ∷ shallower) drawn o f);
+        at-turn = λ left new places candidates drawn f e.
+            made-turn b C budget p left places (opened bucket new places candidates drawn) (used draws new places drawn) (made-opened budget p (suc left) new places candidates drawn f);
       }
 
   -- a pass uses at most the turns that are enough, and a cut has fewer

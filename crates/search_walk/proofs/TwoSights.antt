@@ -1,14 +1,14 @@
 -- Two searches that differ only in where a pass is over: where the former finds a plan or closes, so does the latter, in the same turns.
 -- As the Rust a failed check ends the pass; in the full search it goes on (02, request 13).
-use mathlib.Core.Path.{_≡_, sym, _∙_}
+use mathlib.Core.Path.{_≡_, refl, sym, _∙_}
 use mathlib.Core.Bool.{Bool, true, false≢true}
-use mathlib.Core.List.{List, [], _∷_}
-use Prim.Native.Nat.{ℕ}
-use Rattle.search_walk.specs.Walk.{Sight, goal, on, Out, hit, dry, cut, walk, pass}
+use mathlib.Core.List.{List, []}
+use Prim.Native.Nat.{ℕ, suc}
+use Rattle.search_walk.specs.Walk.{Sight, goal, on, Out, hit, dry, cut, Turn, moves, closes, walk, pass}
 use Rattle.search_walk.specs.Closing.{walkCloses, passCloses}
-use Rattle.search_walk.proofs.WalkLaws.{walk-goal, walk-cut, turn-close, turn-back, turn-down, turn-none, pass-walk}
-use Rattle.search_walk.proofs.ClosingLaws.{closes-goal, closes-over, closes-cut, closes-close, closes-none, closes-back, closes-down, pass-closes}
-use Rattle.search_walk.proofs.Induction.{Kept, walk-ind}
+use Rattle.search_walk.proofs.WalkSteps.{turnFrom, walk-goal, walk-cut, walk-moves, walk-closes, pass-walk}
+use Rattle.search_walk.proofs.ClosingLaws.{closes-goal, closes-over, closes-cut, closes-closes, closes-moves, pass-closes}
+use Rattle.search_walk.proofs.Induction.{After, Kept, walk-ind}
 
 -- what the latter's end is if the former's is known, and isn't dry
 abbrev SameEnd : Out → Out → Type 0
@@ -33,19 +33,22 @@ module _ (former latter : List ℕ → Sight) (bucket : List ℕ → ℕ → Lis
     (ons : (places : List ℕ) → former places ≡ on → latter places ≡ on) where
   -- ---- a plan, or a cut
 
-  -- both walks take the same steps
+  -- both walks take the same turns
+  same-after : (out : Out) (left : ℕ) (new : Bool) (places : List ℕ) (candidates : List (List ℕ)) (drawn : ℕ) (done : Turn) → former places ≡ on
+      → walk latter bucket draws (suc left) new places candidates drawn ≡ out → turnFrom bucket draws new places candidates drawn ≡ done
+      → After (λ left new places candidates drawn. walk latter bucket draws left new places candidates drawn ≡ out) (SameEnd out) left done
+  same-after out left new places candidates drawn (moves new′ places′ candidates′ drawn′) e f t =
+      sym (walk-moves latter bucket draws left new places candidates drawn new′ places′ candidates′ drawn′ (ons places e) t) ∙ f
+  same-after out left new places candidates drawn (closes drawn′) e f t = tt
+
+  -- step by step
   same-kept : (out : Out) → Kept former bucket draws (λ left new places candidates drawn. walk latter bucket draws left new places candidates drawn ≡ out) (SameEnd out)
   same-kept out =
       record {
         at-goal = λ left new places candidates drawn f e. sym f ∙ walk-goal latter bucket draws left new places candidates drawn (goals places e);
         at-over = λ left new places candidates drawn f e. tt;
         at-cut = λ new places candidates drawn f e. sym f ∙ walk-cut latter bucket draws new places candidates drawn (ons places e);
-        at-none = λ left new places candidates drawn f e o. tt;
-        at-close = λ left new candidates shallower drawn f e o. tt;
-        back = λ left new last places candidates shallower drawn f e o.
-            sym (turn-back latter bucket draws left new last places candidates shallower drawn (ons (last ∷ places) e) o) ∙ f;
-        down = λ left new place rest places candidates shallower drawn f e o.
-            sym (turn-down latter bucket draws left new place rest places candidates shallower drawn (ons places e) o) ∙ f;
+        at-turn = λ left new places candidates drawn f e. same-after out left new places candidates drawn (turnFrom bucket draws new places candidates drawn) e f refl;
       }
 
   -- both passes
@@ -74,6 +77,19 @@ module _ (former latter : List ℕ → Sight) (bucket : List ℕ → ℕ → Lis
       × (walk latter bucket draws left new places candidates drawn ≡ out)
       × (walkCloses latter bucket draws left new places candidates drawn ≡ closed)
 
+  -- after a turn too
+  close-after : (out : Out) (closed : Bool) (left : ℕ) (new : Bool) (places : List ℕ) (candidates : List (List ℕ)) (drawn : ℕ) (done : Turn) → former places ≡ on
+      → BothFrom out closed (suc left) new places candidates drawn → turnFrom bucket draws new places candidates drawn ≡ done → After (BothFrom out closed) (SameClose out closed) left done
+  close-after out closed left new places candidates drawn (moves new′ places′ candidates′ drawn′) e f t = (
+    sym (closes-moves former bucket draws left new places candidates drawn new′ places′ candidates′ drawn′ e t) ∙ f .0,
+    sym (walk-moves latter bucket draws left new places candidates drawn new′ places′ candidates′ drawn′ (ons places e) t) ∙ f .1,
+    sym (closes-moves latter bucket draws left new places candidates drawn new′ places′ candidates′ drawn′ (ons places e) t) ∙ f .2,
+  )
+  close-after out closed left new places candidates drawn (closes drawn′) e f t = (
+    sym (f .1) ∙ walk-closes latter bucket draws left new places candidates drawn drawn′ (ons places e) t,
+    sym (f .2) ∙ closes-closes latter bucket draws left new places candidates drawn drawn′ (ons places e) t,
+  )
+
   -- step by step
   close-kept : (out : Out) (closed : Bool) → Kept former bucket draws (BothFrom out closed) (SameClose out closed)
   close-kept out closed =
@@ -81,24 +97,7 @@ module _ (former latter : List ℕ → Sight) (bucket : List ℕ → ℕ → Lis
         at-goal = λ left new places candidates drawn f e. false≢true (sym (closes-goal former bucket draws left new places candidates drawn e) ∙ f .0);
         at-over = λ left new places candidates drawn f e. absurd (false≢true (sym (closes-over former bucket draws left new places candidates drawn e) ∙ f .0));
         at-cut = λ new places candidates drawn f e. false≢true (sym (closes-cut former bucket draws new places candidates drawn) ∙ f .0);
-        at-none = λ left new places candidates drawn f e o. (
-          sym (f .1) ∙ turn-none latter bucket draws left new places candidates drawn (ons places e) o,
-          sym (f .2) ∙ closes-none latter bucket draws left new places candidates drawn (ons places e) o,
-        );
-        at-close = λ left new candidates shallower drawn f e o. (
-          sym (f .1) ∙ turn-close latter bucket draws left new candidates shallower drawn (ons [] e) o,
-          sym (f .2) ∙ closes-close latter bucket draws left new candidates shallower drawn (ons [] e) o,
-        );
-        back = λ left new last places candidates shallower drawn f e o. (
-          sym (closes-back former bucket draws left new last places candidates shallower drawn e o) ∙ f .0,
-          sym (turn-back latter bucket draws left new last places candidates shallower drawn (ons (last ∷ places) e) o) ∙ f .1,
-          sym (closes-back latter bucket draws left new last places candidates shallower drawn (ons (last ∷ places) e) o) ∙ f .2,
-        );
-        down = λ left new place rest places candidates shallower drawn f e o. (
-          sym (closes-down former bucket draws left new place rest places candidates shallower drawn e o) ∙ f .0,
-          sym (turn-down latter bucket draws left new place rest places candidates shallower drawn (ons places e) o) ∙ f .1,
-          sym (closes-down latter bucket draws left new place rest places candidates shallower drawn (ons places e) o) ∙ f .2,
-        );
+        at-turn = λ left new places candidates drawn f e. close-after out closed left new places candidates drawn (turnFrom bucket draws new places candidates drawn) e f refl;
       }
 
   -- 'if the former ends at depth 0 with no candidate, so does the latter', in the same number of turns and with the same draws used

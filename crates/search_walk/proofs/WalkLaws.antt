@@ -1,10 +1,11 @@
--- The walk at each kind of state, one equation each, as a loop over the turns left meets them.
+-- The walk at each kind of state, one equation each, as a loop over the turns left meets them: what a turn does there.
 use mathlib.Core.Path.{_≡_, refl, _∙_, ap}
 use mathlib.Core.Bool.{Bool, true, false}
 use mathlib.Core.List.{List, [], _∷_}
-use Prim.Native.Nat.{ℕ, zero, suc, _-_, _<_}
+use Prim.Native.Nat.{ℕ, suc, _-_, _<_}
 use native.Mathlib.Omega.{arith}
-use Rattle.search_walk.specs.Walk.{Sight, goal, over, on, hit, dry, cut, turn, opened, used, walk, pass}
+use Rattle.search_walk.specs.Walk.{Sight, on, dry, turn, opened, used, walk}
+pub use Rattle.search_walk.proofs.WalkSteps.{walk-goal, walk-over, walk-cut, pass-walk}
 
 -- one turn fewer, and one
 suc-less : (n : ℕ) → 0 < n → n ≡ suc (n - 1)
@@ -35,26 +36,6 @@ used-old draws places drawn = refl
 -- ---- the walk
 
 module _ (sight : List ℕ → Sight) (bucket : List ℕ → ℕ → List ℕ) (draws : List ℕ → ℕ → ℕ) where
-  -- a plan stands here: the pass ends, no turn is used
-  pub walk-goal : (left : ℕ) (new : Bool) (places : List ℕ) (candidates : List (List ℕ)) (drawn : ℕ) → sight places ≡ goal
-      → walk sight bucket draws left new places candidates drawn ≡ hit left places drawn
-  unfolding walk
-  walk-goal zero new places candidates drawn e = rw (e, walk)
-  walk-goal (suc left) new places candidates drawn e = rw (e, walk)
-
-  -- the pass ends here without a plan, no turn is used
-  pub walk-over : (left : ℕ) (new : Bool) (places : List ℕ) (candidates : List (List ℕ)) (drawn : ℕ) → sight places ≡ over
-      → walk sight bucket draws left new places candidates drawn ≡ dry left drawn
-  unfolding walk
-  walk-over zero new places candidates drawn e = rw (e, walk)
-  walk-over (suc left) new places candidates drawn e = rw (e, walk)
-
-  -- a turn is needed and none is left: nothing is made
-  pub walk-cut : (new : Bool) (places : List ℕ) (candidates : List (List ℕ)) (drawn : ℕ) → sight places ≡ on
-      → walk sight bucket draws 0 new places candidates drawn ≡ cut drawn
-  unfolding walk
-  walk-cut new places candidates drawn e = rw (e, walk)
-
   -- ---- with a turn left, as suc
 
   -- 'the closing turn at depth 0 with no candidate'
@@ -77,13 +58,6 @@ module _ (sight : List ℕ → Sight) (bucket : List ℕ → ℕ → List ℕ) (
       → walk sight bucket draws (suc left) new places candidates drawn ≡ walk sight bucket draws left true (place ∷ places) (rest ∷ shallower) (used draws new places drawn)
   unfolding walk turn
   turn-down left new place rest places candidates shallower drawn e o = rw (e, walk, o)
-
-  -- no depth's candidates are there: a closing turn too, which no pass meets
-  pub turn-none : (left : ℕ) (new : Bool) (places : List ℕ) (candidates : List (List ℕ)) (drawn : ℕ) → sight places ≡ on
-      → opened bucket new places candidates drawn ≡ []
-      → walk sight bucket draws (suc left) new places candidates drawn ≡ dry left (used draws new places drawn)
-  unfolding walk turn
-  turn-none left new places candidates drawn e o = rw (e, walk, o)
 
   -- making the candidates of a new depth is no turn: the walk goes on from there with the turns it had
   pub turn-open : (left : ℕ) (places : List ℕ) (candidates : List (List ℕ)) (drawn : ℕ) → sight places ≡ on
@@ -118,8 +92,3 @@ module _ (sight : List ℕ → Sight) (bucket : List ℕ → ℕ → List ℕ) (
       → walk sight bucket draws left new places candidates drawn ≡ walk sight bucket draws (left - 1) true (place ∷ places) (rest ∷ shallower) (used draws new places drawn)
   walk-down left new place rest places candidates shallower drawn e o h =
       ap (λ turns. walk sight bucket draws turns new places candidates drawn) (suc-less left h) ∙ turn-down (left - 1) new place rest places candidates shallower drawn e o
-
-  -- a pass is the walk from no place decided
-  pub pass-walk : (budget drawn : ℕ) → pass sight bucket draws budget drawn ≡ walk sight bucket draws budget true [] [] drawn
-  unfolding pass
-  pass-walk budget drawn = refl

@@ -23,9 +23,9 @@ use Rattle.constraint.specs.declared.check.Counts.{Counts}
 use Rattle.constraint.specs.declared.row.Row.{Row}
 use Rattle.union_find.specs.State.{fresh, soundAt, taken, climb, rootOf, hung, linked, joinOf, joinFrom, joinAll}
 use Rattle.new_rows.specs.Turn.{turnedRow, turnedOne, clashesAt}
-use Rattle.constraints.specs.Groups.{joinOne, sameChoosers}
-use Rattle.constraints.specs.Pairs.{pairRow, pairsOf, mandatoryOne, mandatoryPairs}
-use Rattle.constraints.specs.Copies.{copyTo, copiesIn, isCopied, copiesOf}
+use Rattle.same_choosers.specs.Groups.{joinOne, sameChoosers}
+use Rattle.added_pairs.specs.Pairs.{pairRow, pairsOf, mandatoryOne, mandatoryPairs}
+use Rattle.same_choosers.specs.Copies.{copyTo, copiesIn, isCopied, copiesOf}
 use Rattle.constraints.specs.Reduction.{addedTo, expanded, reducedRows, reductionOf, reduceOf}
 use Rattle.constraints.specs.declared.Reduction.{Reduction}
 use Rattle.day_lists.specs.Levels.{levelsInRange, levelsRise, lastLevel}
@@ -52,9 +52,9 @@ use Rattle.pass_rules.specs.Pass.{choiceAt, remainingAt, depthAt, askedAt, cand
 use Rattle.search_input.specs.Given.{Given, givenOf}
 use Rattle.search_input.specs.Judged.{searchInRange, searchLengths, dayJudged, lentJudged}
 use Rattle.search_input.specs.declared.counts.SearchCounts.{SearchCounts}
-use Rattle.scheduling_solver.specs.Search.{startOf, levelsAbove, setsAt, rowsCounted, orderOf, lentAt, passAt, endingOf}
-use Rattle.scheduling_solver.specs.Calls.{Settled, plan, noPlan, outOfTurns, searchJudged, searchOf}
-use Rattle.scheduling_solver.specs.declared.search.Settings.{Settings}
+use Rattle.demand.specs.Search.{startOf, levelsAbove, setsAt, rowsCounted, orderOf, lentAt, passAt, endingOf}
+use Rattle.demand.specs.Calls.{Settled, plan, noPlan, outOfTurns, searchJudged, searchOf}
+use Rattle.search_input.specs.declared.settings.Settings.{Settings}
 
 -- a row by its columns, extra as the column holds it
 abbrev row : ℕ → ℕ → ℕ → ℕ → Row
