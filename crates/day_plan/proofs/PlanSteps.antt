@@ -28,9 +28,9 @@ use Rattle.search_input.specs.Given.{Given, givenOf, rowCounts}
 use Rattle.search_input.specs.Judged.{searchInRange, searchLengths, dayJudged}
 use Rattle.search_input.specs.declared.counts.SearchCounts.{SearchCounts}
 use Rattle.search_input.proofs.JudgedLaws.{in-range, day-count, day-alone, DayKeeps, day-keeps}
-use Rattle.scheduling_solver.specs.Calls.{Settled, searchedTells, searchOf}
-use Rattle.scheduling_solver.specs.declared.search.Settings.{Settings}
-use Rattle.scheduling_solver.specs.declared.search.Searched.{Searched}
+use Rattle.demand.specs.Calls.{Settled, searchedTells, searchOf}
+use Rattle.search_input.specs.declared.settings.Settings.{Settings}
+use Rattle.search_input.specs.declared.answer.Searched.{Searched}
 use Rattle.demand.specs.Demand.{OwnMap}
 use Rattle.demand.specs.Answer.{AnswerSays}
 use Rattle.demand.proofs.Answers.{answered}
@@ -49,7 +49,7 @@ module _ (rows : List ℕ) (choices : ℕ) where
   pools-over t = rw t
 
   -- the own map's are, whether its numbers fit or not
-  own-full : choices ≤ 64 → mapFull (ownPools rows choices) ≡ true
+  pub own-full : choices ≤ 64 → mapFull (ownPools rows choices) ≡ true
   own-full h = go (leb (length (ownNumbers rows choices)) 10240) refl
     where
       go : (b : Bool) → leb (length (ownNumbers rows choices)) 10240 ≡ b → mapFull (ownPools rows choices) ≡ true

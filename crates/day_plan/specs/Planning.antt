@@ -12,8 +12,8 @@ use Rattle.constraint_map.specs.Calls.{ownPools}
 use Rattle.search_input.specs.Given.{Given, givenOf}
 use Rattle.search_input.specs.Judged.{dayJudged}
 use Rattle.search_input.specs.declared.counts.SearchCounts.{SearchCounts}
-use Rattle.scheduling_solver.specs.Calls.{Settled, searchOf}
-use Rattle.scheduling_solver.specs.declared.search.Settings.{Settings}
+use Rattle.demand.specs.Calls.{Settled, searchOf}
+use Rattle.search_input.specs.declared.settings.Settings.{Settings}
 use Rattle.day_plan.specs.declared.plan.PlanCounts.{PlanCounts}
 
 -- ---- what the search is given

@@ -8,8 +8,8 @@ use constraint::check::Checked;
 use constraint_map::own_map::Mapped;
 use constraint_map::own_map::own_map;
 use critical_set_analysis::analysis::Analysis;
-use scheduling_solver::search::Searched;
 use scheduling_solver::search::search;
+use search_input::answer::Searched;
 use search_input::counts::SearchCounts;
 use search_input::counts::row_counts;
 use search_input::judge::judge_day;
@@ -18,7 +18,7 @@ ghost use mathlib.Core.List.{[]};
 ghost use Rattle.constraint.specs.Check.{checkedTells};
 ghost use Rattle.constraint.specs.Told.{good, outcome};
 ghost use Rattle.search_input.specs.Judged.{dayJudged};
-ghost use Rattle.scheduling_solver.specs.Calls.{searchedTells};
+ghost use Rattle.demand.specs.Calls.{searchedTells};
 ghost use Rattle.demand.specs.Answer.{AnswerSays};
 ghost use Rattle.day_plan.specs.Planning.{withNumbers, givenWith, givenOwn, fullBy, planDayOf};
 

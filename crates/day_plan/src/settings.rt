@@ -1,6 +1,6 @@
 // The settings of a full search.
 use critical_set_analysis::analysis::Analysis;
-use scheduling_solver::search::Settings;
+use search_input::settings::Settings;
 ghost use mathlib.Core.Path.{_≡_};
 ghost use Rattle.day_plan.specs.Planning.{fullBy};
 

@@ -13,33 +13,43 @@ use Rattle.lists.specs.First.{firstFailing}
 use Rattle.lists.proofs.First.{first-le}
 use Rattle.constraint.specs.Told.{done, Outcome, outcome}
 use Rattle.search_walk.specs.Walk.{Out, hit, dry, cut, turnsLeft}
-use Rattle.pass_rules.specs.Pass.{Lent, planOf, passOf}
+use Rattle.search_walk.proofs.Sound.{turns-left}
+use Rattle.pass_rules.specs.Pass.{Lent, planOf, sightAt, candidatesAt, drawAfter, passOf}
+use Rattle.search_pass.specs.Call.{Ended, found, without, wanting, Leaves, leaves, passedTells, leftBy}
+use Rattle.search_pass.specs.declared.pass.Passed.{Passed}
+use Rattle.search_input.specs.declared.answer.Searched.{Searched}
 use Rattle.search_passes.specs.Passes.{Ending, passesFrom}
 use Rattle.search_passes.proofs.PassesLaws.{passes-last-hit, passes-last-dry, passes-last-cut, passes-hit, passes-dry, passes-cut-out, passes-cut-on}
-use Rattle.scheduling_solver.specs.Search.{levelsAbove}
-use Rattle.scheduling_solver.specs.Calls.{Settled, Figures, figures}
-use Rattle.scheduling_solver.specs.Calls as settled
-use Rattle.scheduling_solver.specs.declared.passes.Below.{Below}
-use Rattle.scheduling_solver.specs.declared.passes.Below.the-variants as below
-use Rattle.scheduling_solver.specs.steps.Ground.{Ground, lentIn, passIn, endingIn, answered, Gone, plan, noTurn, on, belowTells, Went, went, wentBy}
-use Rattle.scheduling_solver.proofs.EndSteps.{turns-in}
+use Rattle.demand.specs.Search.{levelsAbove}
+use Rattle.demand.specs.Calls.{searchedTells}
+use Rattle.level_steps.specs.steps.Step.{Follows, answers, goesOn, stepTells, stepOf}
+use Rattle.level_steps.specs.declared.step.Step.{Step}
+use Rattle.level_steps.specs.declared.step.Step.the-variants as steps
+use Rattle.scheduling_solver.specs.steps.Ground.{Ground, lentIn, passIn, endingIn, answered, callIn}
 
--- ---- how a pass below the last level went, by what it carries
+-- no more turns are left than a pass had
+turns-in : (ground : Ground) (limit pass turns draw : ℕ) → turnsLeft (passIn ground limit pass turns draw) ≤ turns
+unfolding passIn passOf
+turns-in ground limit pass turns draw =
+    let lent = lentIn ground limit pass in
+    turns-left (sightAt lent) (candidatesAt lent) (drawAfter lent) turns draw
 
-abbrev goneKind : Gone → ℕ
-goneKind (plan left) = 0
-goneKind noTurn = 1
-goneKind (on left draw) = 2
+-- how a pass ended, by its end
+abbrev endedBy : Out → Ended
+endedBy (hit left places draw) = found left draw
+endedBy (dry left draw) = without left draw
+endedBy (cut draw) = wanting draw
 
-abbrev goneLeft : Gone → ℕ
-goneLeft (plan left) = left
-goneLeft noTurn = 0
-goneLeft (on left draw) = left
+-- and the plan that it leaves
+abbrev cellsBy : Lent → List ℕ → Out → List ℕ
+cellsBy lent before (hit left places draw) = planOf lent places
+cellsBy lent before (dry left draw) = before
+cellsBy lent before (cut draw) = before
 
-abbrev goneDraw : Gone → ℕ
-goneDraw (plan left) = 0
-goneDraw noTurn = 0
-goneDraw (on left draw) = draw
+left-by : (lent : Lent) (before : List ℕ) (o : Out) → leftBy lent before o ≡ leaves (endedBy o) (cellsBy lent before o)
+left-by lent before (hit left places draw) = refl
+left-by lent before (dry left draw) = refl
+left-by lent before (cut draw) = refl
 
 -- ---- the passes from here on are those of the whole call
 
@@ -64,174 +74,105 @@ module _ (ground : Ground) (budget total start : ℕ) (before : List ℕ) where
         few-levels = h;
       }
 
+  -- an ending is answered
+  ending-answered : (ending : Ending) → ending ≡ endingIn ground budget total start → answered ground total before ending ≡ callIn ground budget total start before
+  unfolding callIn
+  ending-answered ending e = ap (answered ground total before) e
+
   module _ (limit above left draw pass : ℕ) (now : List ℕ) (f : Along limit above left draw pass now) where
+    -- what follows the pass: the call's answer, or a higher level and the passes from it on
+    abbrev pub After : Follows → List ℕ → Type 0
+    After (answers told) after = outcome told after ≡ callIn ground budget total start before
+    After (goesOn left′ draw′) after = (above < length (ground .levels)) × Along (getD (ground .levels) above 0) (above + 1) left′ draw′ (pass + 1) after
+
+    next : above < length (ground .levels) → (left′ draw′ : ℕ) → left′ ≤ total
+        → passesFrom (passIn ground) budget (drop (suc above) (ground .levels)) (getD (ground .levels) above 0) (suc pass) left′ draw′ ≡ endingIn ground budget total start
+        → (above < length (ground .levels)) × Along (getD (ground .levels) above 0) (above + 1) left′ draw′ (pass + 1) now
+    next h left′ draw′ t a = (
+      h,
+      record {
+        within = omega arith;
+        ahead = rw (add-one above, add-one pass) a;
+        same-plan = f .same-plan;
+        few-turns = t;
+        few-passes = omega (arith, f .few-passes);
+        few-levels = f .few-levels;
+      },
+    )
+
     -- past the last level: the pass has every turn that is left
     module _ (h : length (ground .levels) ≤ above) where
       ahead-none : passesFrom (passIn ground) budget [] limit pass left draw ≡ endingIn ground budget total start
       ahead-none = rw (drop-of-length-le (ground .levels) {i = above} h) at (f .ahead)
 
-      -- a plan or none, with the turns left
-      pub record LastLeft (after : List ℕ) (spared : ℕ) (answer : Figures → Settled) : Type 0 where
-        pub few : spared ≤ total
-        pub answers : outcome (done (answer (figures (total - spared) (pass + 1) limit))) after ≡ answered ground total before (endingIn ground budget total start)
+      last-pass : (o : Out) → passIn ground limit pass left draw ≡ o → turnsLeft o ≤ left
+          → After (stepOf true left left total (pass + 1) limit (endedBy o)) (cellsBy (lentIn ground limit pass) now o)
+      unfolding answered turnsLeft
+      last-pass (hit spared places draw′) q t =
+          let l : left - (left - spared) ≡ spared = omega arith in
+          rw (l, add-one pass) (ending-answered _ (sym (passes-last-hit (passIn ground) budget limit pass left draw q) ∙ ahead-none))
+      last-pass (dry spared draw′) q t =
+          let l : left - (left - spared) ≡ spared = omega arith in
+          rw (l, add-one pass, f .same-plan) (ending-answered _ (sym (passes-last-dry (passIn ground) budget limit pass left draw q) ∙ ahead-none))
+      last-pass (cut draw′) q t =
+          rw (le-leb left left (omega arith), add-one pass, f .same-plan) (ending-answered _ (sym (passes-last-cut (passIn ground) budget limit pass left draw q) ∙ ahead-none))
 
-      module _ {answer : Below} {after : List ℕ}
-          (e : went (belowTells answer) after ≡ wentBy (lentIn ground limit pass) now left left (passIn ground limit pass (min left left) draw)) where
-        last-known : {known : Below} → answer ≡ known → went (belowTells known) after ≡ wentBy (lentIn ground limit pass) now left left (passIn ground limit pass left draw)
-        last-known k =
-            let m : min left left ≡ left = omega arith in
-            ap (λ (b : Below). went (belowTells b) after) (sym k) ∙ e ∙ ap (λ (n : ℕ). wentBy (lentIn ground limit pass) now left left (passIn ground limit pass n draw)) m
-
-        pub last-found : {spared : ℕ} → answer ≡ below.Found spared → LastLeft after spared settled.plan
-        unfolding answered turnsLeft
-        last-found {spared} k = go (passIn ground limit pass left draw) refl (last-known k)
-          where
-            go : (o : Out) → passIn ground limit pass left draw ≡ o → went (plan spared) after ≡ wentBy (lentIn ground limit pass) now left left o → LastLeft after spared settled.plan
-            go (hit left′ places draw′) q g =
-                let l : spared ≡ left′ + (left - left) = ap (λ (x : Went). goneLeft (x .gone)) g in
-                let l′ : spared ≡ left′ = omega arith in
-                let t : left′ ≤ left = rw q at (turns-in ground limit pass left draw) in
-                record {
-                  few = omega (arith, f .few-turns);
-                  answers =
-                      ap₂ (λ (x : ℕ) (y : List ℕ). outcome (done (settled.plan (figures (total - spared) x limit))) y) (add-one pass) (ap (λ (x : Went). x .cells) g)
-                      ∙ ap (λ (x : ℕ). outcome (done (settled.plan (figures (total - x) (suc pass) limit))) (planOf (lentIn ground limit pass) places)) l′
-                      ∙ ap (λ (x : Ending). answered ground total before x) (sym (passes-last-hit (passIn ground) budget limit pass left draw q) ∙ ahead-none);
-                }
-            go (dry left′ draw′) q g = let z : _≡_ {A = ℕ} 0 2 = ap (λ (x : Went). goneKind (x .gone)) g in absurd (omega arith)
-            go (cut draw′) q g =
-                let c : went (plan spared) after ≡ went noTurn now = g ∙ rw (le-leb left left (omega arith)) in
-                let z : _≡_ {A = ℕ} 0 1 = ap (λ (x : Went). goneKind (x .gone)) c in
-                absurd (omega arith)
-
-        -- 'after the last level the answer is none'
-        pub last-none : {spared next : ℕ} → answer ≡ below.On spared next → LastLeft after spared settled.noPlan
-        unfolding answered turnsLeft
-        last-none {spared} {next} k = go (passIn ground limit pass left draw) refl (last-known k)
-          where
-            go : (o : Out) → passIn ground limit pass left draw ≡ o → went (on spared next) after ≡ wentBy (lentIn ground limit pass) now left left o → LastLeft after spared settled.noPlan
-            go (hit left′ places draw′) q g = let z : _≡_ {A = ℕ} 2 0 = ap (λ (x : Went). goneKind (x .gone)) g in absurd (omega arith)
-            go (dry left′ draw′) q g =
-                let l : spared ≡ left′ + (left - left) = ap (λ (x : Went). goneLeft (x .gone)) g in
-                let l′ : spared ≡ left′ = omega arith in
-                let t : left′ ≤ left = rw q at (turns-in ground limit pass left draw) in
-                record {
-                  few = omega (arith, f .few-turns);
-                  answers =
-                      ap₂ (λ (x : ℕ) (y : List ℕ). outcome (done (settled.noPlan (figures (total - spared) x limit))) y) (add-one pass) (ap (λ (x : Went). x .cells) g ∙ f .same-plan)
-                      ∙ ap (λ (x : ℕ). outcome (done (settled.noPlan (figures (total - x) (suc pass) limit))) before) l′
-                      ∙ ap (λ (x : Ending). answered ground total before x) (sym (passes-last-dry (passIn ground) budget limit pass left draw q) ∙ ahead-none);
-                }
-            go (cut draw′) q g =
-                let c : went (on spared next) after ≡ went noTurn now = g ∙ rw (le-leb left left (omega arith)) in
-                let z : _≡_ {A = ℕ} 2 1 = ap (λ (x : Went). goneKind (x .gone)) c in
-                absurd (omega arith)
-
-        pub last-out : answer ≡ below.OutOfTurns
-            → outcome (done (settled.outOfTurns (figures total (pass + 1) limit))) after ≡ answered ground total before (endingIn ground budget total start)
-        unfolding answered
-        last-out k = go (passIn ground limit pass left draw) refl (last-known k)
-          where
-            go : (o : Out) → passIn ground limit pass left draw ≡ o → went noTurn after ≡ wentBy (lentIn ground limit pass) now left left o
-                → outcome (done (settled.outOfTurns (figures total (pass + 1) limit))) after ≡ answered ground total before (endingIn ground budget total start)
-            go (hit left′ places draw′) q g = let z : _≡_ {A = ℕ} 1 0 = ap (λ (x : Went). goneKind (x .gone)) g in absurd (omega arith)
-            go (dry left′ draw′) q g = let z : _≡_ {A = ℕ} 1 2 = ap (λ (x : Went). goneKind (x .gone)) g in absurd (omega arith)
-            go (cut draw′) q g =
-                let c : went noTurn after ≡ went noTurn now = g ∙ rw (le-leb left left (omega arith)) in
-                ap₂ (λ (x : ℕ) (y : List ℕ). outcome (done (settled.outOfTurns (figures total x limit))) y) (add-one pass) (ap (λ (x : Went). x .cells) c ∙ f .same-plan)
-                ∙ ap (λ (x : Ending). answered ground total before x) (sym (passes-last-cut (passIn ground) budget limit pass left draw q) ∙ ahead-none)
-
+    -- below it: its budget or what is left
     module _ (h : above < length (ground .levels)) where
-      ahead-cons : passesFrom (passIn ground) budget (getD (ground .levels) above 0 ∷ drop (suc above) (ground .levels)) limit pass left draw ≡ endingIn ground budget total start
+      abbrev level : ℕ
+      level = getD (ground .levels) above 0
+
+      abbrev higher : List ℕ
+      higher = drop (suc above) (ground .levels)
+
+      ahead-cons : passesFrom (passIn ground) budget (level ∷ higher) limit pass left draw ≡ endingIn ground budget total start
       ahead-cons = rw (drop-cons (ground .levels) above 0 h) at (f .ahead)
 
-      -- a plan: the call has found it
-      pub record FoundBelow (after : List ℕ) (spared : ℕ) : Type 0 where
-        pub few : spared ≤ total
-        pub answers : outcome (done (settled.plan (figures (total - spared) (pass + 1) limit))) after ≡ answered ground total before (endingIn ground budget total start)
+      pass-below : (o : Out) → passIn ground limit pass (min left budget) draw ≡ o → turnsLeft o ≤ min left budget
+          → After (stepOf false left (min left budget) total (pass + 1) limit (endedBy o)) (cellsBy (lentIn ground limit pass) now o)
+      unfolding answered turnsLeft
+      pass-below (hit spared places draw′) q t =
+          let l : left - (min left budget - spared) ≡ spared + (left - budget) = omega arith in
+          rw (l, add-one pass) (ending-answered _ (sym (passes-hit (passIn ground) budget limit pass left draw level higher q) ∙ ahead-cons))
+      pass-below (dry spared draw′) q t =
+          let l : left - (min left budget - spared) ≡ spared + (left - budget) = omega arith in
+          rw l (next h (spared + (left - budget)) draw′ (omega (arith, f .few-turns)) (sym (passes-dry (passIn ground) budget limit pass left draw level higher q) ∙ ahead-cons))
+      pass-below (cut draw′) q t = short (leb left (min left budget)) refl
+        where
+          short : (b : Bool) → leb left (min left budget) ≡ b → After (stepOf false left (min left budget) total (pass + 1) limit (wanting draw′)) now
+          short true s =
+              let few : left ≤ min left budget = leb-true _ _ s in
+              rw (s, add-one pass, f .same-plan) (ending-answered _ (sym (passes-cut-out (passIn ground) budget limit pass left draw level higher q (omega arith)) ∙ ahead-cons))
+          short false s =
+              let more : min left budget < left = leb-false _ _ s in
+              let l : left - min left budget ≡ left - budget = omega arith in
+              rw (s, l) (next h (left - budget) draw′ (omega (arith, f .few-turns)) (sym (passes-cut-on (passIn ground) budget limit pass left draw level higher q (omega arith)) ∙ ahead-cons))
 
-      module _ {answer : Below} {after : List ℕ}
-          (e : went (belowTells answer) after ≡ wentBy (lentIn ground limit pass) now left budget (passIn ground limit pass (min left budget) draw)) where
-        known-by : {known : Below} → answer ≡ known → went (belowTells known) after ≡ wentBy (lentIn ground limit pass) now left budget (passIn ground limit pass (min left budget) draw)
-        known-by k = ap (λ (b : Below). went (belowTells b) after) (sym k) ∙ e
+    -- by whether a level is above
+    module _ {turns : ℕ} (t : turns ≡ cond (leb (length (ground .levels)) above) left (min left budget)) (passed : Passed) {after : List ℕ}
+        (p : leaves (passedTells passed) after ≡ leftBy (lentIn ground limit pass) now (passIn ground limit pass turns draw)) (step : Step)
+        (s : stepTells step ≡ stepOf (leb (length (ground .levels)) above) left turns total (pass + 1) limit (passedTells passed)) where
+      ended-is : passedTells passed ≡ endedBy (passIn ground limit pass turns draw)
+      ended-is = ap (λ (x : Leaves). x .ended) (p ∙ left-by (lentIn ground limit pass) now (passIn ground limit pass turns draw))
 
-        pub along-found : {spared : ℕ} → answer ≡ below.Found spared → FoundBelow after spared
-        unfolding answered turnsLeft
-        along-found {spared} k = go (passIn ground limit pass (min left budget) draw) refl (known-by k)
-          where
-            go : (o : Out) → passIn ground limit pass (min left budget) draw ≡ o → went (plan spared) after ≡ wentBy (lentIn ground limit pass) now left budget o → FoundBelow after spared
-            go (hit left′ places draw′) q g =
-                let l : spared ≡ left′ + (left - budget) = ap (λ (x : Went). goneLeft (x .gone)) g in
-                let t : left′ ≤ min left budget = rw q at (turns-in ground limit pass (min left budget) draw) in
-                record {
-                  few = omega (arith, f .few-turns);
-                  answers =
-                      ap₂ (λ (x : ℕ) (y : List ℕ). outcome (done (settled.plan (figures (total - spared) x limit))) y) (add-one pass) (ap (λ (x : Went). x .cells) g)
-                      ∙ ap (λ (x : ℕ). outcome (done (settled.plan (figures (total - x) (suc pass) limit))) (planOf (lentIn ground limit pass) places)) l
-                      ∙ ap (λ (x : Ending). answered ground total before x)
-                      (sym (passes-hit (passIn ground) budget limit pass left draw (getD (ground .levels) above 0) (drop (suc above) (ground .levels)) q) ∙ ahead-cons);
-                }
-            go (dry left′ draw′) q g = let z : _≡_ {A = ℕ} 0 2 = ap (λ (x : Went). goneKind (x .gone)) g in absurd (omega arith)
-            go (cut draw′) q g = short (leb left budget) refl
-              where
-                short : (b : Bool) → leb left budget ≡ b → FoundBelow after spared
-                short true t = let z : _≡_ {A = ℕ} 0 1 = ap (λ (x : Went). goneKind (x .gone)) (rw t at g) in absurd (omega arith)
-                short false t = let z : _≡_ {A = ℕ} 0 2 = ap (λ (x : Went). goneKind (x .gone)) (rw t at g) in absurd (omega arith)
+      after-is : after ≡ cellsBy (lentIn ground limit pass) now (passIn ground limit pass turns draw)
+      after-is = ap (λ (x : Leaves). x .plan) (p ∙ left-by (lentIn ground limit pass) now (passIn ground limit pass turns draw))
 
-        -- no turn is left
-        pub along-out : answer ≡ below.OutOfTurns
-            → outcome (done (settled.outOfTurns (figures total (pass + 1) limit))) after ≡ answered ground total before (endingIn ground budget total start)
-        unfolding answered
-        along-out k = go (passIn ground limit pass (min left budget) draw) refl (known-by k)
-          where
-            go : (o : Out) → passIn ground limit pass (min left budget) draw ≡ o → went noTurn after ≡ wentBy (lentIn ground limit pass) now left budget o
-                → outcome (done (settled.outOfTurns (figures total (pass + 1) limit))) after ≡ answered ground total before (endingIn ground budget total start)
-            go (hit left′ places draw′) q g = let z : _≡_ {A = ℕ} 1 0 = ap (λ (x : Went). goneKind (x .gone)) g in absurd (omega arith)
-            go (dry left′ draw′) q g = let z : _≡_ {A = ℕ} 1 2 = ap (λ (x : Went). goneKind (x .gone)) g in absurd (omega arith)
-            go (cut draw′) q g = short (leb left budget) refl
-              where
-                short : (b : Bool) → leb left budget ≡ b → outcome (done (settled.outOfTurns (figures total (pass + 1) limit))) after ≡ answered ground total before (endingIn ground budget total start)
-                short true t =
-                    ap₂ (λ (x : ℕ) (y : List ℕ). outcome (done (settled.outOfTurns (figures total x limit))) y) (add-one pass) (ap (λ (x : Went). x .cells) (rw t at g) ∙ f .same-plan)
-                    ∙ ap (λ (x : Ending). answered ground total before x)
-                    (sym (passes-cut-out (passIn ground) budget limit pass left draw (getD (ground .levels) above 0) (drop (suc above) (ground .levels)) q (leb-true _ _ t)) ∙ ahead-cons)
-                short false t = let z : _≡_ {A = ℕ} 1 2 = ap (λ (x : Went). goneKind (x .gone)) (rw t at g) in absurd (omega arith)
+      follows : (b : Bool) → leb (length (ground .levels)) above ≡ b → turns ≡ cond b left (min left budget)
+          → After (stepOf b left turns total (pass + 1) limit (endedBy (passIn ground limit pass turns draw))) (cellsBy (lentIn ground limit pass) now (passIn ground limit pass turns draw))
+      follows true l u = rw u (last-pass (leb-true _ _ l) (passIn ground limit pass left draw) refl (turns-in ground limit pass left draw))
+      follows false l u = rw u (pass-below (leb-false _ _ l) (passIn ground limit pass (min left budget) draw) refl (turns-in ground limit pass (min left budget) draw))
 
-        -- on to the next level
-        pub along-on : {left″ draw″ : ℕ} → answer ≡ below.On left″ draw″ → Along (getD (ground .levels) above 0) (above + 1) left″ draw″ (pass + 1) after
-        unfolding turnsLeft
-        along-on {left″} {draw″} k = go (passIn ground limit pass (min left budget) draw) refl (known-by k)
-          where
-            next : left″ ≤ total → passesFrom (passIn ground) budget (drop (suc above) (ground .levels)) (getD (ground .levels) above 0) (suc pass) left″ draw″ ≡ endingIn ground budget total start
-                → after ≡ now → Along (getD (ground .levels) above 0) (above + 1) left″ draw″ (pass + 1) after
-            next t a p =
-                record {
-                  within = omega arith;
-                  ahead = rw (add-one above, add-one pass) a;
-                  same-plan = p ∙ f .same-plan;
-                  few-turns = t;
-                  few-passes = omega (arith, f .few-passes);
-                  few-levels = f .few-levels;
-                }
+      along-step : {known : Step} → step ≡ known → After (stepTells known) after
+      along-step {known} k =
+          let e : stepTells known ≡ stepOf (leb (length (ground .levels)) above) left turns total (pass + 1) limit (endedBy (passIn ground limit pass turns draw)) =
+          ap stepTells (sym k) ∙ s ∙ ap (stepOf (leb (length (ground .levels)) above) left turns total (pass + 1) limit) ended-is in
+          rw (e, after-is) (follows (leb (length (ground .levels)) above) refl t)
 
-            go : (o : Out) → passIn ground limit pass (min left budget) draw ≡ o → went (on left″ draw″) after ≡ wentBy (lentIn ground limit pass) now left budget o
-                → Along (getD (ground .levels) above 0) (above + 1) left″ draw″ (pass + 1) after
-            go (hit left′ places draw′) q g = let z : _≡_ {A = ℕ} 2 0 = ap (λ (x : Went). goneKind (x .gone)) g in absurd (omega arith)
-            go (dry left′ draw′) q g =
-                let l : left″ ≡ left′ + (left - budget) = ap (λ (x : Went). goneLeft (x .gone)) g in
-                let d : draw″ ≡ draw′ = ap (λ (x : Went). goneDraw (x .gone)) g in
-                let t : left′ ≤ min left budget = rw q at (turns-in ground limit pass (min left budget) draw) in
-                next (omega (arith, f .few-turns))
-                (rw (l, d) (sym (passes-dry (passIn ground) budget limit pass left draw (getD (ground .levels) above 0) (drop (suc above) (ground .levels)) q) ∙ ahead-cons))
-                (ap (λ (x : Went). x .cells) g)
-            go (cut draw′) q g = short (leb left budget) refl
-              where
-                short : (b : Bool) → leb left budget ≡ b → Along (getD (ground .levels) above 0) (above + 1) left″ draw″ (pass + 1) after
-                short true t = let z : _≡_ {A = ℕ} 2 1 = ap (λ (x : Went). goneKind (x .gone)) (rw t at g) in absurd (omega arith)
-                short false t =
-                    let g′ : went (on left″ draw″) after ≡ went (on (left - budget) draw′) now = rw t at g in
-                    let l : left″ ≡ left - budget = ap (λ (x : Went). goneLeft (x .gone)) g′ in
-                    let d : draw″ ≡ draw′ = ap (λ (x : Went). goneDraw (x .gone)) g′ in
-                    next (omega (arith, f .few-turns))
-                    (rw (l, d) (sym (passes-cut-on (passIn ground) budget limit pass left draw (getD (ground .levels) above 0) (drop (suc above) (ground .levels)) q (leb-false _ _ t)) ∙ ahead-cons))
-                    (ap (λ (x : Went). x .cells) g′)
+      -- the call's answer
+      pub along-answer : {answer : Searched} → step ≡ steps.Answer answer → outcome (searchedTells answer) after ≡ callIn ground budget total start before
+      along-answer k = along-step k
+
+      -- on to the next level
+      pub along-on : {level left′ draw′ : ℕ} → step ≡ steps.On left′ draw′ → level ≡ getD (ground .levels) above 0 → Along level (above + 1) left′ draw′ (pass + 1) after
+      along-on k e = rw e (along-step k .1)

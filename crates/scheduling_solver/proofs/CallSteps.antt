@@ -36,10 +36,10 @@ use Rattle.search_passes.specs.Passes.{Ending, found, none, out, passesFrom}
 use Rattle.search_input.specs.Given.{Given, rowCounts, dayCounts, planDay, setsDay}
 use Rattle.search_input.specs.Judged.{dayJudged, lentJudged}
 use Rattle.search_input.proofs.JudgedLaws.{DayKeeps, LentKeeps, day-keeps, lent-keeps}
-use Rattle.scheduling_solver.specs.Search.{setsOf, lowestOf, startOf, levelsAbove, setsAt, rowsCounted, orderOf, lentAt, passAt, endingOf}
-use Rattle.scheduling_solver.specs.Calls.{Settled, settledBy, planLeft, setsFit, searchJudged, searchOf}
-use Rattle.scheduling_solver.specs.declared.search.Settings.{Settings}
-use Rattle.scheduling_solver.specs.steps.Ground.{Ground, groundOf, rowsIn, lentIn, passIn, endingIn, plannedIn, answered, Ready}
+use Rattle.demand.specs.Search.{setsOf, lowestOf, startOf, levelsAbove, setsAt, rowsCounted, orderOf, lentAt, passAt, endingOf}
+use Rattle.demand.specs.Calls.{Settled, settledBy, planLeft, setsFit, searchJudged, searchOf}
+use Rattle.search_input.specs.declared.settings.Settings.{Settings}
+use Rattle.scheduling_solver.specs.steps.Ground.{Ground, groundOf, rowsIn, lentIn, passIn, endingIn, plannedIn, answered, callIn, Ready}
 
 -- ---- the analysis
 
@@ -130,7 +130,7 @@ module _ (given : Given) (settings : Settings) (before : List ℕ) where
     day-facts = day-keeps given before d
 
     -- what counting the looked-up rows asks for
-    pub few-looked : (length (given .map .numbers) ≤ 10240) × (length (given .whole) ≤ 1024)
+    few-looked : (length (given .map .numbers) ≤ 10240) × (length (given .whole) ≤ 1024)
     unfolding mapFull
     few-looked =
         let f = day-facts in
@@ -184,7 +184,7 @@ module _ (given : Given) (settings : Settings) (before : List ℕ) where
       module _ (l : lentJudged given ≡ good) where
         -- what the passes ask for
         pub passes-ready : {counts : Counts} → counts ≡ rowCounts (given .counts) → 1024 ≡ length masks → 1024 ≡ length levels
-            → Ready (plan.dayOf counts (given .mins) (given .maxs) (given .optional) (given .rows)) (given .orders) (given .levels) count masks levels before
+            → Ready (plan.dayOf counts (given .mins) (given .maxs) (given .optional) (given .rows)) (given .map .numbers) (given .whole) (given .orders) (given .levels) count masks levels before
         unfolding shapesFit levelsInRange
         passes-ready {counts} c m n =
             let k = day-facts in
@@ -192,6 +192,8 @@ module _ (given : Given) (settings : Settings) (before : List ℕ) where
             rw c
             (record {
               shapes = rw (le-leb _ _ (k .in-range .day .choices), le-leb _ _ (k .in-range .day .slots)) (k .entries);
+              few-numbers = few-looked .0;
+              short-whole = few-looked .1;
               orders-keep = t .orders;
               few-levels = rw (k .levels, le-leb _ _ (k .in-range .level), le-leb _ _ (k .in-range .levels));
               levels-rise = k .rise;
@@ -222,8 +224,9 @@ module _ (given : Given) (settings : Settings) (before : List ℕ) where
         -- the passes answer
         pub passes-answer : {counts : Counts} {start : ℕ} {tells : Outcome Settled (List ℕ)} → counts ≡ rowCounts (given .counts) → start ≡ cond (settings .«at_last_level») (lastLevel (given .levels)) bound
             → tells
-            ≡ answered (groundOf (settings .full) (plan.dayOf counts (given .mins) (given .maxs) (given .optional) (given .rows)) (given .map) (given .whole) (given .orders) (given .levels) (setsIn count masks levels) (given .draws)) (settings .«total_budget») before (endingIn (groundOf (settings .full) (plan.dayOf counts (given .mins) (given .maxs) (given .optional) (given .rows)) (given .map) (given .whole) (given .orders) (given .levels) (setsIn count masks levels) (given .draws)) (settings .«pass_budget») (settings .«total_budget») start)
+            ≡ callIn (groundOf (settings .full) (plan.dayOf counts (given .mins) (given .maxs) (given .optional) (given .rows)) (given .map) (given .whole) (given .orders) (given .levels) (setsIn count masks levels) (given .draws)) (settings .«pass_budget») (settings .«total_budget») start before
             → tells ≡ searchOf given settings before
+        unfolding callIn
         passes-answer {counts} {start} c s e =
             let same : groundOf (settings .full) (plan.dayOf counts (given .mins) (given .maxs) (given .optional) (given .rows)) (given .map) (given .whole) (given .orders) (given .levels) (setsIn count masks levels) (given .draws) ≡ groundAt =
             ap₂ (λ (k : Counts) (x : List CriticalSet). groundOf (settings .full) (plan.dayOf k (given .mins) (given .maxs) (given .optional) (given .rows)) (given .map) (given .whole) (given .orders) (given .levels) x (given .draws)) c sets-in in

@@ -1,17 +1,16 @@
 // The search as a public call.
-use super::passes::no_sets;
 use super::passes::passes_from;
 use constraint::check::Checked;
-use constraint::refusal::Refusal;
-use critical_set_analysis::analysis::Analysis;
 use critical_set_analysis::analysis::Analyzed;
 use critical_set_analysis::analysis::analyze;
 use day_lists::last_level;
+use search_input::answer::Searched;
 use search_input::counts::SearchCounts;
 use search_input::counts::day_counts;
 use search_input::counts::row_counts;
 use search_input::judge::judge_day;
 use search_input::judge::judge_lent;
+use search_input::settings::Settings;
 ghost use mathlib.Core.Path.{_≡_};
 ghost use mathlib.Core.Bool.{cond};
 ghost use lib.ListN.{length};
@@ -19,36 +18,7 @@ ghost use Rattle.day_lists.specs.Levels.{lastLevel};
 ghost use Rattle.constraint.specs.Told.{outcome};
 ghost use Rattle.constraint_map.specs.Map.{mapOf};
 ghost use Rattle.search_input.specs.Given.{givenOf};
-ghost use Rattle.scheduling_solver.specs.Calls.{searchedTells, searchOf};
-
-// Full, or as the Rust; 'analysis off, on, or simplified'; whether to start at the last level; and both budgets of turns.
-pub struct Settings {
-    pub full: bool,
-    pub analysis: Analysis,
-    pub at_last_level: bool,
-    pub pass_budget: u64,
-    pub total_budget: u64,
-}
-
-// What the search answers: 'turns, passes begun and the last limit', or why it is refused.
-pub enum Searched {
-    Found {
-        turns: u64,
-        passes: usize,
-        limit: u16,
-    },
-    None {
-        turns: u64,
-        passes: usize,
-        limit: u16,
-    },
-    OutOfTurns {
-        turns: u64,
-        passes: usize,
-        limit: u16,
-    },
-    Refused(Refusal),
-}
+ghost use Rattle.demand.specs.Calls.{searchedTells, searchOf};
 
 // Where the call starts.
 fn start_of(at_last_level: bool, levels: &[u16], bound: u16) -> u16
@@ -58,6 +28,13 @@ fn start_of(at_last_level: bool, levels: &[u16], bound: u16) -> u16
         return last_level(levels);
     }
     bound
+}
+
+// Places for 1,024 sets.
+fn no_sets() -> [u64; 1024]
+    ensures { λ r. ⌜ 1024 ≡ length r ⌝ }
+{
+    [0u64; 1024]
 }
 
 // The levels of 1,024 sets.
@@ -125,9 +102,7 @@ pub fn search<'a>(
             }
             passes_from(
                 row_counts(counts),
-                settings.full,
-                settings.pass_budget,
-                settings.total_budget,
+                settings,
                 start_of(settings.at_last_level, levels, bound),
                 count,
                 &masks,

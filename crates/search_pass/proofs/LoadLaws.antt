@@ -117,18 +117,13 @@ module _ (amount : ℕ → ℕ) (d : List ℕ) (c : ℕ) (h : c < length d) wher
       list-ext 24 (total amount (set d c x)) (total amount d)
       (λ k hk. omega (arith, total-apart x k hk, here-other (getD d c 254) k (amount c) (λ z. omega arith), here-other x k (amount c) (λ z. omega arith)))
 
-  -- undecided again: its slot has the amount less, and had it
+  -- undecided again: its slot has the amount less
   pub cleared-in : (x : ℕ) → x ≡ getD d c 254 → x < 24 → listed amount (set d c 254) ≡ set (listed amount d) x (getD (listed amount d) x 0 - amount c)
   unfolding listed
   cleared-in x e b =
       list-apart 24 (total amount (set d c 254)) (total amount d) x (getD (listBelow 24 (total amount d)) x 0 - amount c) b
       (λ k hk n. omega (arith, total-apart 254 k hk, here-other (getD d c 254) k (amount c) (λ z. n (omega arith)), here-other 254 k (amount c) (λ z. omega arith)))
       (omega (arith, total-apart 254 x b, here-same (getD d c 254) x (amount c) (sym e), here-other 254 x (amount c) (λ z. omega arith), getD-list 24 (total amount d) x 0 b))
-
-  pub has-own : (x : ℕ) → x ≡ getD d c 254 → x < 24 → amount c ≤ getD (listed amount d) x 0
-  unfolding listed
-  has-own x e b =
-      omega (arith, total-apart 254 x b, here-same (getD d c 254) x (amount c) (sym e), here-other 254 x (amount c) (λ z. omega arith), getD-list 24 (total amount d) x 0 b)
 
   pub cleared-out : 24 ≤ getD d c 254 → listed amount (set d c 254) ≡ listed amount d
   unfolding listed

@@ -1,53 +1,46 @@
--- What stands at a depth, for each way through the code.
-use mathlib.Core.Path.{_≡_, sym}
-use mathlib.Core.Bool.{Bool, true, false, cond}
+-- What the code sees at a depth, and the plan that it writes, are the rule's.
+use mathlib.Core.Path.{_≡_, sym, ap}
+use mathlib.Core.Bool.{Bool, cond}
 use mathlib.Core.List.{List}
-use Prim.Native.Nat.{ℕ, _-_, _≤_, _<_}
+use Prim.Native.Nat.{ℕ, _≤_}
 use native.Mathlib.Omega.{arith}
-use borrow.Author.Tests.{lt-ltb, le-ltb, le-leb, eq-eqb}
-use lib.Dec.{eqb}
-use lib.ListN.{take}
+use borrow.Author.Tests.{le-leb, eq-eqb}
+use lib.Dec.{ltb}
+use lib.ListN.{length, take}
 use lib.Seq.{length-take-le}
-use Rattle.constraint.specs.declared.check.Counts.{Counts}
-use Rattle.scheduling.specs.Day.{Day, dayOf}
 use Rattle.scheduling.specs.Feasible.{feasible, lengthsFit, shapesFit, isFeasible}
-use Rattle.search_walk.specs.Walk.{Sight, goal, over, on}
-use Rattle.pass_rules.specs.Pass.{sightFull, sightAsTheRust}
-use Rattle.search_pass.specs.steps.Seen.{Shaped, sightFrom}
+use Rattle.search_walk.specs.Walk.{on}
+use Rattle.pass_rules.specs.Decided.{decided}
+use Rattle.pass_rules.specs.Pass.{Lent, sightFull, sightAsTheRust, planOf, sightAt}
+use Rattle.search_sight.specs.steps.Seen.{sightFrom, planLeft}
+use Rattle.search_pass.specs.steps.Taken.{Taken}
+use Rattle.search_pass.proofs.DecidedLaws.{decided-length}
 
--- above depth C the pass goes on
-pub sight-above : (full : Bool) (day : Day) (decisions : List ℕ) (depth : ℕ) → depth < day .counts .choices → on ≡ sightFrom full day decisions depth
-unfolding sightFrom
-sight-above full day decisions depth h = rw (lt-ltb _ _ h)
-
-module _ (counts : Counts) (mins maxs optional rows decisions : List ℕ) (s : Shaped counts mins maxs optional decisions) where
-  -- the shape is a day's
-  check-is : isFeasible (dayOf counts mins maxs optional rows) (take (counts .choices) decisions) ≡ feasible (dayOf counts mins maxs optional rows) (take (counts .choices) decisions)
+module _ (lent : Lent) (t : Taken lent) where
+  -- the shape is a day's, so that the check is the plan check
+  check-is : (decisions : List ℕ) → length decisions ≡ 64 → isFeasible (lent .day) (take (lent .day .counts .choices) decisions) ≡ feasible (lent .day) (take (lent .day .counts .choices) decisions)
   unfolding isFeasible shapesFit lengthsFit
-  check-is =
+  check-is decisions l =
       rw (
-        le-leb _ _ (s .few-choices),
-        le-leb _ _ (s .few-slots),
-        eq-eqb _ _ (s .mins-fit),
-        eq-eqb _ _ (s .maxs-fit),
-        eq-eqb _ _ (s .optional-fits),
-        eq-eqb _ _ (length-take-le (counts .choices) decisions (omega (arith, s .few-choices, s .decisions-fit))),
+        le-leb _ _ (t .few-choices),
+        le-leb _ _ (t .few-slots),
+        eq-eqb _ _ (t .mins-fit),
+        eq-eqb _ _ (t .maxs-fit),
+        eq-eqb _ _ (t .optional-fits),
+        eq-eqb _ _ (length-take-le (lent .day .counts .choices) decisions (omega (arith, t .few-choices))),
       )
 
-  pub sight-of-full : (full passes : Bool) (depth : ℕ) (seen : Sight) → full ≡ true → counts .choices ≤ depth
-      → passes ≡ isFeasible (dayOf counts mins maxs optional rows) (take (counts .choices - 0) decisions)
-      → seen ≡ cond passes goal (cond (eqb (counts .choices) 0) over on)
-      → seen ≡ sightFrom full (dayOf counts mins maxs optional rows) decisions depth
-  unfolding sightFrom sightFull
-  sight-of-full full passes depth seen t h p e =
-      let z : counts .choices - 0 ≡ counts .choices = omega arith in
-      rw (t, le-ltb _ _ h, sym check-is, sym (rw z at p)) e
+  -- what stands at the places decided
+  pub sight-are : (places : List ℕ) → sightAt lent places ≡ sightFrom (lent .full) (lent .day) (decided (lent .order) places) (length places)
+  unfolding sightAt sightFrom planOf
+  sight-are places =
+      ap (λ (passes : Bool). cond (ltb (length places) (lent .day .counts .choices)) on (cond (lent .full) (sightFull (lent .day) passes) (sightAsTheRust (lent .day) passes)))
+      (sym (check-is (decided (lent .order) places) (decided-length (lent .order) places)))
 
-  pub sight-of-the-rust : (full passes : Bool) (depth : ℕ) (seen : Sight) → full ≡ false → counts .choices ≤ depth
-      → passes ≡ isFeasible (dayOf counts mins maxs optional rows) (take (counts .choices - 0) decisions)
-      → seen ≡ cond (eqb (counts .slots) 0) over (cond passes goal over)
-      → seen ≡ sightFrom full (dayOf counts mins maxs optional rows) decisions depth
-  unfolding sightFrom sightAsTheRust
-  sight-of-the-rust full passes depth seen t h p e =
-      let z : counts .choices - 0 ≡ counts .choices = omega arith in
-      rw (t, le-ltb _ _ h, sym check-is, sym (rw z at p)) e
+  -- a plan of C entries is written whole
+  pub plan-written : (decisions plan plan' : List ℕ) → length decisions ≡ 64 → length plan ≡ lent .day .counts .choices → plan' ≡ planLeft decisions plan
+      → plan' ≡ take (lent .day .counts .choices) decisions
+  unfolding planLeft
+  plan-written decisions plan plan' l n e =
+      let h : length plan ≤ length decisions = omega (arith, t .few-choices) in
+      rw (le-leb _ _ h, n) at e

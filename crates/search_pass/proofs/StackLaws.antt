@@ -5,11 +5,10 @@ use mathlib.Core.List.{List, [], _∷_, _++_}
 use Prim.Native.Nat.{ℕ, zero, suc, _+_, _*_, _-_, _≤_, _<_}
 use native.Mathlib.Decide.{ℕ-discrete}
 use native.Mathlib.Omega.{arith}
-use borrow.Rule.Slice.PartMut.{putMid, midOf, take-put, same-len-mid, mid-len}
 use lib.ListN.{length, getD, set, take, drop, length-set, length-drop, length-append, take-append-drop}
 use lib.Seq.{length-take-le, drop-append-le, take-append-le, take-at, drop-at, drop-cons, getD-set-same, getD-set-other}
 use Rattle.lists.specs.Pool.{window}
-use Rattle.search_pass.specs.steps.Standing.{stackOf, made, Held, Opened}
+use Rattle.search_pass.proofs.Standing.{stackOf, made, Held, Opened}
 
 -- ---- windows
 
@@ -42,9 +41,10 @@ window-none a b l h =
     let e : b - a ≡ 0 = omega arith in
     rw e
 
-window-length : (a b : ℕ) (l : List ℕ) → a ≤ b → b ≤ length l → length (window a (b - a) l) ≡ b - a
+-- as many entries as it is asked for
+pub window-size : (a s : ℕ) (l : List ℕ) → a + s ≤ length l → length (window a s l) ≡ s
 unfolding window
-window-length a b l h k = length-take-le (b - a) (drop a l) (omega (arith, length-drop a l))
+window-size a s l h = length-take-le s (drop a l) (omega (arith, length-drop a l))
 
 -- ---- stacks
 
@@ -151,35 +151,45 @@ unfolding made
 made-new new depth e = rw e
 
 -- the candidates are written at the front of the depth's own entries
-module _ (candidates bucket pool pool' next end : List ℕ) (depth : ℕ) (h : Held pool next end depth) (few : depth ≤ 64)
-    (put : pool' ≡ putMid (25 * depth) (25 * depth + 25 - 25 * depth) pool bucket)
-    (fits : length bucket ≡ length (midOf (25 * depth) (25 * depth + 25 - 25 * depth) pool))
-    (front : bucket ≡ candidates ++ drop (length candidates) (midOf (25 * depth) (25 * depth + 25 - 25 * depth) pool)) where
-  part-length : length bucket ≡ 25
+module _ (candidates pool pool' next end : List ℕ) (depth : ℕ) (h : Held pool next end depth) (few : depth ≤ 64)
+    (put : pool' ≡ take (25 * depth) pool ++ ((candidates ++ drop (length candidates) (window (25 * depth) 25 pool)) ++ drop (25 * depth + 25) pool))
+    (same : length pool' ≡ length pool) where
+  before-length : length (take (25 * depth) pool) ≡ 25 * depth
+  before-length = length-take-le (25 * depth) pool (omega (arith, h .pool-length))
+
+  part-length : length (candidates ++ drop (length candidates) (window (25 * depth) 25 pool)) ≡ 25
   part-length =
-      let e : 25 * depth + 25 - 25 * depth ≡ 25 = omega arith in
-      fits ∙ mid-len (25 * depth) (25 * depth + 25) pool (omega (arith, h .pool-length)) ∙ e
+      let rest = drop (25 * depth + 25) pool in
+      let part = candidates ++ drop (length candidates) (window (25 * depth) 25 pool) in
+      omega (
+        arith,
+        sym same ∙ ap length put ∙ length-append (take (25 * depth) pool) (part ++ rest),
+        length-append part rest,
+        length-drop (25 * depth + 25) pool,
+        before-length,
+        h .pool-length,
+      )
 
   pub few-candidates : length candidates ≤ 25
-  few-candidates =
-      omega (arith, sym part-length ∙ ap length front ∙ length-append candidates (drop (length candidates) (midOf (25 * depth) (25 * depth + 25 - 25 * depth) pool)))
+  few-candidates = omega (arith, part-length, length-append candidates (drop (length candidates) (window (25 * depth) 25 pool)))
 
   after-length : length pool' ≡ 1625
-  after-length = ap length put ∙ same-len-mid (25 * depth) (25 * depth + 25 - 25 * depth) pool bucket fits ∙ h .pool-length
+  after-length = same ∙ h .pool-length
 
   after-front : take (25 * depth) pool' ≡ take (25 * depth) pool
   after-front =
-      ap (λ (l : List ℕ). take (25 * depth) l) put ∙ take-put (25 * depth) (25 * depth + 25 - 25 * depth) pool bucket (omega (arith, h .pool-length))
+      ap (λ (l : List ℕ). take (25 * depth) l) put
+      ∙ take-at (take (25 * depth) pool) ((candidates ++ drop (length candidates) (window (25 * depth) 25 pool)) ++ drop (25 * depth + 25) pool) (25 * depth) before-length
 
   after-window : window (25 * depth) (length candidates) pool' ≡ candidates
   unfolding window
   after-window =
-      let rest = drop (25 * depth + 25 - 25 * depth) (drop (25 * depth) pool) in
+      let rest = drop (25 * depth + 25) pool in
+      let part = candidates ++ drop (length candidates) (window (25 * depth) 25 pool) in
       ap (λ (l : List ℕ). take (length candidates) (drop (25 * depth) l)) put
-      ∙ ap (λ (l : List ℕ). take (length candidates) l) (drop-at (take (25 * depth) pool) (bucket ++ rest) (25 * depth) (length-take-le (25 * depth) pool (omega (arith, h .pool-length))))
-      ∙ take-append-le (length candidates) bucket rest (omega (arith, few-candidates, part-length))
-      ∙ ap (λ (l : List ℕ). take (length candidates) l) front
-      ∙ take-at candidates (drop (length candidates) (midOf (25 * depth) (25 * depth + 25 - 25 * depth) pool)) (length candidates) refl
+      ∙ ap (λ (l : List ℕ). take (length candidates) l) (drop-at (take (25 * depth) pool) (part ++ rest) (25 * depth) before-length)
+      ∙ take-append-le (length candidates) part rest (omega (arith, few-candidates, part-length))
+      ∙ take-at candidates (drop (length candidates) (window (25 * depth) 25 pool)) (length candidates) refl
 
   module _ (count : ℕ) (c : count ≡ length candidates) where
     next-own : getD (set next depth (25 * depth)) depth 0 ≡ 25 * depth

@@ -1,30 +1,38 @@
 -- Each way through a turn: the walk from where the code stands is the whole pass.
 use mathlib.Core.Path.{_≡_, refl, sym, _∙_, ap, ap₂}
-use mathlib.Core.Bool.{Bool, true, false, cond, false≢true}
+use mathlib.Core.Bool.{Bool, true, false, _&&_, cond, false≢true}
 use mathlib.Core.List.{List, [], _∷_}
 use Prim.Native.Nat.{ℕ, zero, suc, _+_, _*_, _-_, _≤_, _<_, _^_}
 use native.Mathlib.Omega.{arith}
-use borrow.Author.Tests.{ltb-true}
-use lib.Dec.{ltb}
+use native.Mathlib.Decide.{ℕ-discrete}
+use borrow.Author.Tests.{ltb-true, ltb-false, leb-true, eqb-true, le-leb, eq-eqb}
+use lib.Dec.{eqb, ltb, leb}
 use lib.ListN.{length, getD, set, take, drop, replicate, length-replicate}
 use lib.Seq.{drop-cons}
 use Rattle.lists.specs.Keep.{sumOver}
 use Rattle.lists.specs.Pool.{window}
+use Rattle.lists.proofs.Below.{and-left, and-right}
 use Rattle.search_walk.specs.Walk.{Sight, goal, over, on, Out, hit, dry, cut, opened, used, walk, pass}
 use Rattle.search_walk.proofs.WalkLaws.{opened-new, opened-old, used-new, used-old, walk-goal, walk-over, walk-cut, walk-close, walk-back, walk-down, pass-walk}
 use Rattle.choice_order.proofs.OrderLaws.{permutation-length, below, distinct}
 use Rattle.candidates.specs.Loads.{Loads, loadsOf}
 use Rattle.pass_rules.specs.Decided.{decided, loadsAt}
-use Rattle.pass_rules.specs.Pass.{Lent, remainingAt, askedAt, candidatesAt, drawAfter, planOf, sightAt, passOf}
+use Rattle.pass_rules.specs.Pass.{Lent, remainingAt, depthAt, askedAt, candidatesAt, drawAfter, planOf, sightAt, passOf}
+use Rattle.search_sight.specs.steps.Seen.{sightFrom}
+use Rattle.search_state.specs.steps.State.{closesAt, turning, turnOf}
+use Rattle.search_depth.specs.steps.Opening.{depthFrom, askedFrom, opening, openingOf}
 use Rattle.search_pass.specs.Call.{leaves, found, without, wanting, leftBy}
-use Rattle.search_pass.specs.declared.state.SearchState.{SearchState}
-use Rattle.search_pass.specs.steps.Counted.{Counted, Known, Moved}
-use Rattle.search_pass.specs.steps.Standing.{stackOf, made, Held, Opened}
-use Rattle.search_pass.specs.steps.Seen.{sightFrom}
-use Rattle.search_pass.specs.steps.Opening.{Taken, askedFrom, candidatesFrom, drewFrom, drawFrom}
+use Rattle.search_state.specs.declared.state.SearchState.{SearchState}
+use Rattle.search_pass.proofs.Counted.{Counted, Known, Moved}
+use Rattle.search_pass.specs.steps.Taken.{Taken}
+use Rattle.search_pass.proofs.Turning.{Ready, Turned}
+use Rattle.search_pass.proofs.StepLaws.{turned-of}
+use Rattle.search_pass.proofs.Standing.{stackOf, made, Held, Opened}
 use Rattle.search_pass.proofs.DecidedLaws.{decided-none, decided-more, later-undecided, step-back}
 use Rattle.search_pass.proofs.LoadLaws.{listed, sums-listed, counts-listed, nothing-listed}
-use Rattle.search_pass.proofs.StackLaws.{stack-empty, stack-some, stack-none, stack-taken, held-taken, held-back}
+use Rattle.search_pass.proofs.SightLaws.{sight-are}
+use Rattle.search_pass.proofs.DepthLaws.{candidatesFrom, drewFrom, drawFrom, asFull, opened-of}
+use Rattle.search_pass.proofs.StackLaws.{next-there, stack-empty, stack-some, stack-none, stack-taken, held-taken, held-back}
 
 -- ---- what remains
 
@@ -71,8 +79,8 @@ loads-are : (mins maxs : List ℕ) (state : SearchState) → Counted mins maxs s
 unfolding loadsAt
 loads-are mins maxs state k = rw (k .min-sums, k .max-sums, k .counts)
 
-asked-are : (lent : Lent) (places : List ℕ) (draw : ℕ) → askedAt lent places draw ≡ askedFrom lent (loadsAt (lent .day .mins) (lent .day .maxs) (decided (lent .order) places)) (length places) draw
-unfolding askedAt askedFrom
+asked-are : (lent : Lent) (places : List ℕ) (draw : ℕ) → askedAt lent places draw ≡ askedFrom lent (loadsAt (lent .day .mins) (lent .day .maxs) (decided (lent .order) places)) (length places) draw (remainingAt lent (length places))
+unfolding askedAt askedFrom depthAt depthFrom
 asked-are lent places draw = refl
 
 candidates-are : (lent : Lent) (places : List ℕ) (draw : ℕ) → candidatesAt lent places draw ≡ candidatesFrom lent (loadsAt (lent .day .mins) (lent .day .maxs) (decided (lent .order) places)) (length places) draw
@@ -82,10 +90,6 @@ candidates-are lent places draw = rw (asked-are lent places draw)
 draws-are : (lent : Lent) (places : List ℕ) (draw : ℕ) → drawAfter lent places draw ≡ drawFrom lent (loadsAt (lent .day .mins) (lent .day .maxs) (decided (lent .order) places)) (length places) draw
 unfolding drawAfter drawFrom drewFrom
 draws-are lent places draw = rw (asked-are lent places draw)
-
-sight-are : (lent : Lent) (places : List ℕ) → sightAt lent places ≡ sightFrom (lent .full) (lent .day) (decided (lent .order) places) (length places)
-unfolding sightAt sightFrom planOf
-sight-are lent places = refl
 
 plan-is : (lent : Lent) (places : List ℕ) → planOf lent places ≡ take (lent .day .counts .choices) (decided (lent .order) places)
 unfolding planOf
@@ -114,10 +118,10 @@ apart-of : (lent : Lent) → Taken lent → (i j : ℕ) → i < j → j < lent .
 apart-of lent t i j l h e = omega (arith, distinct _ _ (t .ordered) i j (omega arith) h e)
 
 module _ (lent : Lent) (whole : Out) (left : ℕ) (new : Bool) (depth draw remaining : ℕ) (state : SearchState) (pool next end : List ℕ)
-    (k : Standing lent whole left new depth draw remaining state pool next end) where
+    (k : Standing lent whole left new depth draw remaining state pool next end) (t : Taken lent) where
   sight-is : (seen : Sight) → seen ≡ sightFrom (lent .full) (lent .day) (state .decisions) depth → sightAt lent (k .places) ≡ seen
   sight-is seen e =
-      sight-are lent (k .places)
+      sight-are lent t (k .places)
       ∙ ap₂ (λ (d : List ℕ) (n : ℕ). sightFrom (lent .full) (lent .day) d n) (sym (k .decides)) (k .at)
       ∙ sym e
 
@@ -152,7 +156,7 @@ module _ (lent : Lent) (whole : Out) (left : ℕ) (new : Bool) (depth draw remai
 
   -- ---- a turn, the candidates of a new depth made
 
-  module _ (t : Taken lent) (r : ℕ) (pool' next' end' : List ℕ)
+  module _ (r : ℕ) (pool' next' end' : List ℕ)
       (o : Opened (candidatesFrom lent (loadsIn state) depth draw) (drawFrom lent (loadsIn state) depth draw) new depth draw pool next end r pool' next' end') where
     opened-is : opened (candidatesAt lent) new (k .places) (stackOf pool next end (made new depth)) draw ≡ stackOf pool' next' end' (suc depth)
     unfolding made
@@ -230,7 +234,7 @@ module _ (lent : Lent) (whole : Out) (left : ℕ) (new : Bool) (depth draw remai
           omega (arith, k .remains, remains-at lent depth (omega (arith, down-within b, permutation-length _ _ (t .ordered))), e ∙ ap (λ (n : ℕ). getD (lent .day .maxs) n 0) q)
 
       pub at-down : (v : ℕ) (state' : SearchState) → on ≡ sightFrom (lent .full) (lent .day) (state .decisions) depth → 0 < left → v ≡ getD (lent .day .maxs) choice 0
-          → Moved (lent .day .mins) (lent .day .maxs) state choice (getD pool' (getD next' depth 0) 0) state'
+          → Moved (lent .day .mins) (lent .day .maxs) state choice (getD pool' (getD next' depth 0) 0) (depth + 1) true (remaining - v) state'
           → Standing lent whole (left - 1) true (depth + 1) r (remaining - v) state' pool' (set next' depth (getD next' depth 0 + 1)) end'
       at-down v state' e h ev m =
           let few : depth ≤ 64 = omega (arith, k .within, t .few-choices) in
@@ -281,7 +285,7 @@ module _ (lent : Lent) (whole : Out) (left : ℕ) (new : Bool) (depth draw remai
 
       pub at-back : (v : ℕ) (state' : SearchState) → on ≡ sightFrom (lent .full) (lent .day) (state .decisions) depth → 0 < left → v ≡ getD (lent .day .maxs) choice 0
           → getD end' depth 0 ≤ getD next' depth 0
-          → Moved (lent .day .mins) (lent .day .maxs) state choice 254 state'
+          → Moved (lent .day .mins) (lent .day .maxs) state choice 254 (depth - 1) false (remaining + v) state'
           → Standing lent whole (left - 1) false (depth - 1) r (remaining + v) state' pool' next' end'
       at-back v state' e h ev b m = go (k .places) (k .at) (k .same) (k .decides) (sight-is on e) opened-is used-is
         where
@@ -321,14 +325,128 @@ module _ (lent : Lent) (whole : Out) (left : ℕ) (new : Bool) (depth draw remai
                     ∙ w;
               }
 
+-- ---- a turn as the code makes it
+
+-- depth, newness and what remains, each by another name
+standing-by : (lent : Lent) (whole : Out) (left draw : ℕ) (state : SearchState) (pool next end : List ℕ) (new new' : Bool) (depth depth' remaining remaining' : ℕ)
+    → depth' ≡ depth → new' ≡ new → remaining' ≡ remaining
+    → Standing lent whole left new depth draw remaining state pool next end
+    → Standing lent whole left new' depth' draw remaining' state pool next end
+standing-by lent whole left draw state pool next end new new' depth depth' remaining remaining' d n m k = rw (d, n, m) k
+
+-- as a state has them
+standing-in : (lent : Lent) (whole : Out) (left draw : ℕ) (state : SearchState) (pool next end : List ℕ) (new : Bool) (depth remaining : ℕ)
+    → state .depth ≡ depth → state .«is_new» ≡ new → state .remaining ≡ remaining
+    → Standing lent whole left new depth draw remaining state pool next end
+    → Standing lent whole left (state .«is_new») (state .depth) draw (state .remaining) state pool next end
+standing-in lent whole left draw state pool next end new depth remaining d n m k =
+    standing-by lent whole left draw state pool next end new (state .«is_new») depth (state .depth) remaining (state .remaining) d n m k
+
+module _ (lent : Lent) (whole : Out) (left draw : ℕ) (state : SearchState) (pool next end : List ℕ)
+    (k : Standing lent whole left (state .«is_new») (state .depth) draw (state .remaining) state pool next end) (t : Taken lent) (r : ℕ) (pool' next' end' : List ℕ)
+    (kept : length pool' ≡ length pool)
+    (w : opening r pool' next' end' ≡ openingOf (asFull lent) (loadsIn state) (state .«is_new») (state .depth) draw (state .remaining) pool next end) where
+  few-depths : state .depth ≤ 64
+  few-depths = omega (arith, k .within, t .few-choices)
+
+  o : Opened (candidatesFrom lent (loadsIn state) (state .depth) draw) (drawFrom lent (loadsIn state) (state .depth) draw) (state .«is_new») (state .depth) draw pool next end r pool' next' end'
+  o = opened-of lent t (loadsIn state) (state .depth) draw (state .«is_new») (state .remaining) pool next end few-depths (k .held) (k .remains) r pool' next' end' kept w
+
+  -- the closing turn
+  pub at-closing : (plan : List ℕ) (b : Bool) → on ≡ sightFrom (lent .full) (lent .day) (state .decisions) (state .depth) → 0 < left → b ≡ closesAt (state .depth) next' end' → b ≡ true
+      → leaves (without (left - 1) r) plan ≡ leftBy lent plan whole
+  unfolding closesAt
+  at-closing plan b e h q c =
+      let a : (eqb (state .depth) 0 && leb (getD end' 0 0) (getD next' 0 0)) ≡ true = sym q ∙ c in
+      let z : state .depth ≡ 0 = eqb-true _ _ (and-left (eqb (state .depth) 0) (leb (getD end' 0 0) (getD next' 0 0)) a) in
+      at-close lent whole left (state .«is_new») (state .depth) draw (state .remaining) state pool next end k t r pool' next' end' o plan e h z
+      (rw z (leb-true _ _ (and-right (eqb (state .depth) 0) (leb (getD end' 0 0) (getD next' 0 0)) a)))
+
+  module _ (b : Bool) (q : b ≡ closesAt (state .depth) next' end') (c : b ≡ false) where
+    -- where no candidate is left and the pass doesn't close, there is a depth above
+    above : getD end' (state .depth) 0 ≤ getD next' (state .depth) 0 → 0 < state .depth
+    unfolding closesAt
+    above h = elim (ℕ-discrete (state .depth) 0) [
+      | yes z ↦
+          let h' : getD end' 0 0 ≤ getD next' 0 0 = rw z at h in
+          let s : (eqb (state .depth) 0 && leb (getD end' 0 0) (getD next' 0 0)) ≡ true = rw (eq-eqb _ _ z, le-leb _ _ h') in
+          absurd (false≢true (sym c ∙ q ∙ s))
+      | no n ↦ omega arith
+    ]
+
+    -- what the turn asks for
+    ready-of : ((i : ℕ) → getD (lent .day .maxs) i 0 ≤ 65535) → Ready (lent .day .mins) (lent .day .maxs) (lent .order) state next' end'
+    ready-of f =
+        let new = state .«is_new» in
+        let depth = state .depth in
+        let remaining = state .remaining in
+        record {
+          few = few-depths;
+          there = λ h. next-there pool' next' end' depth (o .held) few-depths h;
+          down = λ h.
+              record {
+                few = few-depths;
+                there = omega (arith, down-within lent whole left new depth draw remaining state pool next end k t r pool' next' end' o h, permutation-length _ _ (t .ordered));
+                known = down-known lent whole left new depth draw remaining state pool next end k t r pool' next' end' o (getD (lent .order) depth 0) h refl;
+                counted = k .counted;
+                undecided = down-undecided lent whole left new depth draw remaining state pool next end k t r pool' next' end' o (getD (lent .order) depth 0) h refl;
+                holds =
+                    down-holds lent whole left new depth draw remaining state pool next end k t r pool' next' end' o (getD (lent .order) depth 0) h refl
+                    (getD (lent .day .maxs) (getD (lent .order) depth 0) 0) refl;
+              };
+          back = λ h.
+              record {
+                above = above h;
+                there = omega (arith, above h, k .within, permutation-length _ _ (t .ordered));
+                known = back-known lent whole left new depth draw remaining state pool next end k t r pool' next' end' o (getD (lent .order) (depth - 1) 0) (above h) refl;
+                counted = k .counted;
+                fits =
+                    back-fits lent whole left new depth draw remaining state pool next end k t r pool' next' end' o (getD (lent .order) (depth - 1) 0) (above h) refl
+                    (getD (lent .day .maxs) (getD (lent .order) (depth - 1) 0) 0) refl f;
+              };
+        }
+
+    module _ (fm : (i : ℕ) → getD (lent .day .mins) i 0 ≤ 65535) (fx : (i : ℕ) → getD (lent .day .maxs) i 0 ≤ 65535) (state' : SearchState) (next'' : List ℕ)
+        (e : on ≡ sightFrom (lent .full) (lent .day) (state .decisions) (state .depth)) (h : 0 < left)
+        (turn : turning state' next'' ≡ turnOf (lent .day .mins) (lent .day .maxs) (lent .order) state pool' next' end') where
+      d : Turned (lent .day .mins) (lent .day .maxs) (lent .order) state pool' next' end' state' next''
+      d = turned-of (lent .day .mins) (lent .day .maxs) (lent .order) state pool' next' end' (ready-of fx) state' next'' fm fx turn
+
+      turned-back : getD end' (state .depth) 0 ≤ getD next' (state .depth) 0 → Standing lent whole (left - 1) (state' .«is_new») (state' .depth) r (state' .remaining) state' pool' next'' end'
+      turned-back g =
+          let m = d .back g in
+          let v = getD (lent .day .maxs) (getD (lent .order) (state .depth - 1) 0) 0 in
+          rw (m .0)
+          (standing-in lent whole (left - 1) r state' pool' next' end' false (state .depth - 1) (state .remaining + v) (m .1 .deep) (m .1 .newness) (m .1 .remains)
+          (at-back lent whole left (state .«is_new») (state .depth) draw (state .remaining) state pool next end k t r pool' next' end' o (getD (lent .order) (state .depth - 1) 0) (above g) refl
+          v state' e h refl g (m .1)))
+
+      turned-down : getD next' (state .depth) 0 < getD end' (state .depth) 0 → Standing lent whole (left - 1) (state' .«is_new») (state' .depth) r (state' .remaining) state' pool' next'' end'
+      turned-down g =
+          let m = d .down g in
+          let v = getD (lent .day .maxs) (getD (lent .order) (state .depth) 0) 0 in
+          rw (m .0)
+          (standing-in lent whole (left - 1) r state' pool' (set next' (state .depth) (getD next' (state .depth) 0 + 1)) end' true (state .depth + 1) (state .remaining - v) (m .1 .deep) (m .1 .newness) (m .1 .remains)
+          (at-down lent whole left (state .«is_new») (state .depth) draw (state .remaining) state pool next end k t r pool' next' end' o (getD (lent .order) (state .depth) 0) g refl v state' e h refl (m .1)))
+
+      -- after it the walk from where the code stands is still the whole pass
+      pub at-turn : Standing lent whole (left - 1) (state' .«is_new») (state' .depth) r (state' .remaining) state' pool' next'' end'
+      at-turn = go (ltb (getD next' (state .depth) 0) (getD end' (state .depth) 0)) refl
+        where
+          go : (b : Bool) → ltb (getD next' (state .depth) 0) (getD end' (state .depth) 0) ≡ b
+              → Standing lent whole (left - 1) (state' .«is_new») (state' .depth) r (state' .remaining) state' pool' next'' end'
+          go true z = turned-down (ltb-true _ _ z)
+          go false z = turned-back (ltb-false _ _ z)
+
 -- ---- the pass begins
 
 pub at-start : (lent : Lent) (budget draw remaining : ℕ) (state : SearchState) (pool next end : List ℕ) → Taken lent
     → state .decisions ≡ replicate 64 254 → state .«slot_min» ≡ replicate 24 0 → state .«slot_max» ≡ replicate 24 0 → state .sizes ≡ replicate 24 0
-    → remaining ≡ remainingAt lent 0 → length pool ≡ 1625 → length next ≡ 65 → length end ≡ 65
-    → Standing lent (passOf lent budget draw) budget true 0 draw remaining state pool next end
+    → state .depth ≡ 0 → state .«is_new» ≡ true → state .remaining ≡ remaining → remaining ≡ remainingAt lent 0 → length pool ≡ 1625 → length next ≡ 65 → length end ≡ 65
+    → Standing lent (passOf lent budget draw) budget (state .«is_new») (state .depth) draw (state .remaining) state pool next end
 unfolding passOf
-at-start lent budget draw remaining state pool next end t d a b c m p n e =
+at-start lent budget draw remaining state pool next end t d a b c deep newness rest m p n e =
+    standing-in lent (passOf lent budget draw) budget draw state pool next end true 0 remaining deep newness rest
     record {
       places = [];
       at = refl;

@@ -1,29 +1,37 @@
 // One pass: turns down and back until a plan, an end, or a turn that isn't there.
-use super::depth::open_if_new;
-use super::sight::Sight;
-use super::sight::sight_at;
-use super::state::SearchState;
-use super::state::wide_amount;
 use choice_order::is_permutation;
 use constraint::check::Counts;
 use pools::wide;
+use search_depth::depth::open_if_new;
+use search_sight::plan::write_plan;
+use search_sight::shape::shapes_fit;
+use search_sight::sight::Sight;
+use search_sight::sight::sight_at;
+use search_state::state::SearchState;
+use search_state::turn::closes;
+use search_state::turn::turned;
 ghost use mathlib.Core.Path.{_≡_};
-ghost use mathlib.Core.List.{[]};
 ghost use Prim.Native.Nat.{_≤_};
-ghost use lib.ListN.{length, getD, take};
+ghost use lib.ListN.{length, getD};
 ghost use Rattle.lists.specs.Keep.{sumOver};
 ghost use Rattle.scheduling.specs.Day.{dayOf};
-ghost use Rattle.scheduling.specs.Feasible.{shapesFit};
 ghost use Rattle.constraint_map.specs.Map.{mapOf};
 ghost use Rattle.pass_rules.specs.Pass.{lentOf, passOf};
-ghost use Rattle.search_pass.specs.Call.{leaves, passedTells, leftBy, passLeaves};
-ghost use Rattle.search_pass.specs.steps.Opening.{Taken, Within};
+ghost use Rattle.search_pass.specs.Call.{leaves, passedTells, leftBy, passFits, passLeaves};
+ghost use Rattle.search_pass.specs.steps.Taken.{Taken, partOf, Within};
 
 // How a pass ended, with the turns left and the place of the next draw.
 pub enum Passed {
     Found { left: u64, draw: usize },
     Without { left: u64, draw: usize },
     Wanting { draw: usize },
+}
+
+// A max as wide as the sums.
+fn wide_amount(amount: u16) -> u32
+    ensures { λ r. ⌜ (r ≡ amount) × (r ≤ 65535) ⌝ }
+{
+    amount as u32
 }
 
 // The sum of every choice's max: what remains at depth 0.
@@ -38,18 +46,6 @@ fn all_max(order: &[u8], maxs: &[u16]) -> u32
         i += 1;
     }
     sum
-}
-
-// The decisions as a plan.
-fn write_plan(decisions: &[u8], plan: &mut [u8])
-    requires { ⌜ length (now plan) ≤ length (now decisions) ⌝ }
-    ensures { λ _. ⌜ now (plan .exit) ≡ take (length (now (plan .entry))) (now (decisions .entry)) ⌝ }
-{
-    let mut i = 0;
-    while i < plan.len() {
-        plan[i] = decisions[i];
-        i += 1;
-    }
 }
 
 // The candidates of 65 depths, 25 each.
@@ -89,13 +85,10 @@ fn walk_pass<'a>(
     requires { ⌜ length (now plan) ≡ counts .choices ⌝ }
     ensures { λ r. ⌜ leaves (passedTells r) (now (plan .exit)) ≡ leftBy (lentOf full (dayOf counts (now (mins .entry)) (now (maxs .entry)) (now (optional .entry)) (now (rows .entry))) (mapOf (now (starts .entry)) (now (lengths .entry)) (now (numbers .entry))) (now (whole .entry)) (now (order .entry)) (now (sets .entry)) (now (draws .entry))) (now (plan .entry)) (passOf (lentOf full (dayOf counts (now (mins .entry)) (now (maxs .entry)) (now (optional .entry)) (now (rows .entry))) (mapOf (now (starts .entry)) (now (lengths .entry)) (now (numbers .entry))) (now (whole .entry)) (now (order .entry)) (now (sets .entry)) (now (draws .entry))) budget «first_draw») ⌝ }
 {
-    let mut state = SearchState::new();
-    let mut remaining = all_max(order, maxs);
+    let mut state = SearchState::new(all_max(order, maxs));
     let mut candidates = no_candidates();
     let mut next = no_places();
     let mut end = no_places();
-    let mut depth = 0;
-    let mut new = true;
     let mut draw = first_draw;
     let mut left = budget;
     loop {
@@ -107,7 +100,7 @@ fn walk_pass<'a>(
             optional,
             rows,
             &state.decisions,
-            depth,
+            state.depth,
         ) {
             Sight::Goal => {
                 break;
@@ -120,6 +113,7 @@ fn walk_pass<'a>(
         if left == 0 {
             return Passed::Wanting { draw };
         }
+        left -= 1;
         draw = open_if_new(
             counts,
             mins,
@@ -134,9 +128,9 @@ fn walk_pass<'a>(
             sets,
             draws,
             draw,
-            new,
-            depth,
-            remaining,
+            state.is_new,
+            state.depth,
+            state.remaining,
             &state.decisions,
             &state.slot_min,
             &state.slot_max,
@@ -145,50 +139,30 @@ fn walk_pass<'a>(
             &mut next,
             &mut end,
         );
-        left -= 1;
-        let at = next[depth];
-        if at < end[depth] {
-            let choice = wide(order[depth]);
-            next[depth] = at + 1;
-            state = state.decided(mins, maxs, choice, candidates[at]);
-            remaining -= wide_amount(maxs[choice]);
-            depth += 1;
-            new = true;
-            continue;
-        }
-        if depth == 0 {
+        if closes(state.depth, &next, &end) {
             return Passed::Without { left, draw };
         }
-        depth -= 1;
-        let choice = wide(order[depth]);
-        state = state.cleared(mins, maxs, choice);
-        remaining += wide_amount(maxs[choice]);
-        new = false;
+        state = turned(state, mins, maxs, order, &candidates, &mut next, &end);
     }
     write_plan(&state.decisions, plan);
     Passed::Found { left, draw }
 }
 
-// Whether each list has an entry for each choice.
-fn shapes_fit(counts: Counts, mins: &[u16], maxs: &[u16], optional: &[u8], plan: &[u8]) -> bool
-    ensures { λ r. ⌜ r ≡ shapesFit (dayOf counts (now (mins .entry)) (now (maxs .entry)) (now (optional .entry)) []) (now (plan .entry)) ⌝ }
+// Whether what is lent is taken: a day's shape, and an order that is a permutation of the choices.
+fn pass_fits(
+    counts: Counts,
+    mins: &[u16],
+    maxs: &[u16],
+    optional: &[u8],
+    order: &[u8],
+    plan: &[u8],
+) -> bool
+    ensures { λ r. ⌜ r ≡ passFits (partOf counts (now (mins .entry)) (now (maxs .entry)) (now (optional .entry)) (now (order .entry))) (now (plan .entry)) ⌝ }
 {
-    if 64 < counts.choices {
+    if !shapes_fit(counts, mins, maxs, optional, plan) {
         return false;
     }
-    if 24 < counts.slots {
-        return false;
-    }
-    if mins.len() != counts.choices {
-        return false;
-    }
-    if maxs.len() != counts.choices {
-        return false;
-    }
-    if optional.len() != counts.choices {
-        return false;
-    }
-    plan.len() == counts.choices
+    is_permutation(counts.choices, order)
 }
 
 // A pass over the choices in the given order, for callers that have judged their day: of what a call judges only C, S and lengths are tested here, and the order.
@@ -212,10 +186,7 @@ pub fn run_pass<'a>(
 ) -> Passed
     ensures { λ r. ⌜ leaves (passedTells r) (now (plan .exit)) ≡ passLeaves (lentOf full (dayOf counts (now (mins .entry)) (now (maxs .entry)) (now (optional .entry)) (now (rows .entry))) (mapOf (now (starts .entry)) (now (lengths .entry)) (now (numbers .entry))) (now (whole .entry)) (now (order .entry)) (now (sets .entry)) (now (draws .entry))) budget draw (now (plan .entry)) ⌝ }
 {
-    if !shapes_fit(counts, mins, maxs, optional, plan) {
-        return Passed::Without { left: budget, draw };
-    }
-    if !is_permutation(counts.choices, order) {
+    if !pass_fits(counts, mins, maxs, optional, order, plan) {
         return Passed::Without { left: budget, draw };
     }
     walk_pass(

@@ -1,9 +1,8 @@
--- What the passes of a call stand on, and what each of them leaves.
+-- What the passes of a call stand on, and what they answer.
 use mathlib.Core.Path.{_≡_}
-use mathlib.Core.Bool.{Bool, true, cond}
+use mathlib.Core.Bool.{Bool, true}
 use mathlib.Core.List.{List, map}
-use Prim.Native.Nat.{ℕ, _+_, _-_, _≤_}
-use lib.Dec.{leb}
+use Prim.Native.Nat.{ℕ, _≤_}
 use lib.ListN.{length, getD}
 use Rattle.lists.specs.Flat.{listBelow}
 use Rattle.constraint.specs.Told.{done, Outcome, outcome}
@@ -14,13 +13,11 @@ use Rattle.critical_set_analysis.specs.Kept.{CriticalSet}
 use Rattle.critical_set_analysis.specs.LevelList.{levelList}
 use Rattle.constraint_map.specs.Map.{Map, lookedUp}
 use Rattle.choice_order.specs.Order.{ordersKeep, passOrder}
-use Rattle.search_walk.specs.Walk.{Out, hit, dry, cut}
+use Rattle.search_walk.specs.Walk.{Out}
 use Rattle.pass_rules.specs.Pass.{Lent, lentOf, planOf, passOf}
 use Rattle.search_passes.specs.Passes.{Ending, found, none, out, passesFrom}
-use Rattle.scheduling_solver.specs.Search.{levelsAbove}
-use Rattle.scheduling_solver.specs.Calls.{Settled, settledBy}
-use Rattle.scheduling_solver.specs.declared.passes.Below.{Below}
-use Rattle.scheduling_solver.specs.declared.passes.Below.the-variants as below
+use Rattle.demand.specs.Search.{levelsAbove}
+use Rattle.demand.specs.Calls.{Settled, settledBy}
 
 -- what every pass of a call is lent, or has its order and its sets from
 pub record Ground : Type 0 where
@@ -66,38 +63,17 @@ plannedIn ground before (out pass limit) = before
 unfoldable pub answered : Ground → ℕ → List ℕ → Ending → Outcome Settled (List ℕ)
 answered ground total before ending = outcome (done (settledBy total ending)) (plannedIn ground before ending)
 
--- ---- a pass below the last level
-
--- a plan, the end of all turns, or the turns and the draw for the next pass
-pub data Gone : Type 0 where
-  plan : (left : ℕ) → Gone
-  noTurn : Gone
-  on : (left draw : ℕ) → Gone
-
-abbrev pub belowTells : Below → Gone
-belowTells (below.Found left) = plan left
-belowTells below.OutOfTurns = noTurn
-belowTells (below.On left draw) = on left draw
-
--- that, and the plan at exit
-pub record Went : Type 0 where
-  pub gone : Gone
-  pub cells : List ℕ
-
-abbrev pub went : Gone → List ℕ → Went
-went gone cells = record { gone = gone; cells = cells }
-
--- how it went on from the end of the pass
-abbrev pub wentBy : Lent → List ℕ → ℕ → ℕ → Out → Went
-wentBy lent before left budget (hit spared places draw) = went (plan (spared + (left - budget))) (planOf lent places)
-wentBy lent before left budget (dry spared draw) = went (on (spared + (left - budget)) draw) before
-wentBy lent before left budget (cut draw) = cond (leb left budget) (went noTurn before) (went (on (left - budget) draw) before)
+-- that of the passes from a start on
+unfoldable pub callIn : Ground → ℕ → ℕ → ℕ → List ℕ → Outcome Settled (List ℕ)
+callIn ground budget total start before = answered ground total before (endingIn ground budget total start)
 
 -- ---- what is judged before the first pass
 
--- a day's shape, orders, levels, and the pools of the sets
-pub record Ready (day : Day) (orders levels : List ℕ) (count : ℕ) (masks setLevels before : List ℕ) : Type 0 where
+-- a day's shape, the lists that rows are looked up in, orders, levels, and the pools of the sets
+pub record Ready (day : Day) (numbers whole orders levels : List ℕ) (count : ℕ) (masks setLevels before : List ℕ) : Type 0 where
   pub shapes : shapesFit day before ≡ true
+  pub few-numbers : length numbers ≤ 10240
+  pub short-whole : length whole ≤ 1024
   pub orders-keep : ordersKeep (day .counts .choices) orders ≡ true
   pub few-levels : levelsInRange (length levels) ≡ true
   pub levels-rise : levelsRise levels ≡ true

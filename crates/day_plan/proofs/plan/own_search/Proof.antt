@@ -10,19 +10,19 @@ use Rattle.day_plan.proofs.plan.own_search.Statement.{statement}
 use Rattle.day_plan.proofs.plan.own_search.Tie as tie
 
 entries-requires : tie.Need-entries-requires
-entries-requires c κs = search needs
+entries-requires c κs = tt
 
 entries-requires-2 : tie.Need-entries-requires-2
-entries-requires-2 c κs = search needs
+entries-requires-2 c κs = tt
 
 numbers-requires : tie.Need-numbers-requires
-numbers-requires c κs = search needs
+numbers-requires c κs = tt
 
 with-numbers-requires : tie.Need-with-numbers-requires
-with-numbers-requires c κs = search needs
+with-numbers-requires c κs = tt
 
 row-counts-requires : tie.Need-row-counts-requires
-row-counts-requires c κs = search needs
+row-counts-requires c κs = tt
 
 slice-aggregate-own-map : tie.Need-slice-aggregate-own-map
 slice-aggregate-own-map c = search needs
@@ -34,7 +34,7 @@ slice-aggregate-own-map-3 : tie.Need-slice-aggregate-own-map-3
 slice-aggregate-own-map-3 c = search needs
 
 own-map-requires : tie.Need-own-map-requires
-own-map-requires c κs = search needs
+own-map-requires c κs = tt
 
 enum-known-mapped : tie.Need-enum-known-mapped
 enum-known-mapped c = search needs
@@ -43,16 +43,16 @@ enum-known-mapped-2 : tie.Need-enum-known-mapped-2
 enum-known-mapped-2 c = search needs
 
 whole-length-requires : tie.Need-whole-length-requires
-whole-length-requires c κs = search needs
+whole-length-requires c κs = tt
 
 count-up-requires : tie.Need-count-up-requires
 count-up-requires c κs = search needs
 
 with-numbers-requires-2 : tie.Need-with-numbers-requires-2
-with-numbers-requires-2 c κs = search needs
+with-numbers-requires-2 c κs = tt
 
 full-by-requires : tie.Need-full-by-requires
-full-by-requires c κs = search needs
+full-by-requires c κs = tt
 
 slice-aggregate-search : tie.Need-slice-aggregate-search
 slice-aggregate-search c = search needs
@@ -70,7 +70,7 @@ slice-aggregate-search-4 : tie.Need-slice-aggregate-search-4
 slice-aggregate-search-4 c = sym (length-take-le (c .before .before .before .before .before .before .before .whole-length .result) (c .before .before .before .before .before .before .count-up .result) (omega (arith, c .before .before .before .before .before .before .before .whole-length .ensures, c .before .before .before .before .before .before .count-up .ensures .0)))
 
 search-requires : tie.Need-search-requires
-search-requires c κs = search needs
+search-requires c κs = tt
 
 returns : tie.Need-returns
 returns c = let s = c .before .before .before .before .before .before .before .before .before .before .before .before .before .before .before .before .before .before .before .before .before .before .before .before in (own-refused (s .args .counts) (s .args .mins .now) (s .args .maxs .now) (s .args .optional .now) (s .args .levels .now) (s .args .preferences .now) (s .args .rows .now) (s .args .plan .now) (s .args .orders .now) (s .args .draws .now) _ (s .pre) (c .before .before .before .before .before .before .before .before .before .before .row-counts .ensures ∙ ap rowCounts (c .before .before .before .before .before .before .before .before .before .before .before .with-numbers .ensures)) (c .before .before .before .before .before .before .before .before .before .before .before .before .before .before .entries .result) (c .before .before .before .before .before .before .before .before .before .before .before .before .before .entries2 .result) (c .before .before .before .before .before .before .before .before .before .before .before .before .numbers .result) (pools-full (c .before .before .before .before .before .before .before .before .before .before .before .before .before .before .entries .result) (c .before .before .before .before .before .before .before .before .before .before .before .before .before .entries2 .result) (c .before .before .before .before .before .before .before .before .before .before .before .before .numbers .result) (sym (c .before .before .before .before .before .before .before .before .before .before .before .before .before .before .entries .ensures)) (sym (c .before .before .before .before .before .before .before .before .before .before .before .before .before .entries2 .ensures)) (sym (c .before .before .before .before .before .before .before .before .before .before .before .before .numbers .ensures))) (c .before .before .before .before .before .before .own-map .ensures) (c .before .mapped .given .1), tt)

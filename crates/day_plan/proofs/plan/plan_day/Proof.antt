@@ -7,7 +7,7 @@ use Rattle.day_plan.proofs.plan.plan_day.Statement.{statement}
 use Rattle.day_plan.proofs.plan.plan_day.Tie as tie
 
 judge-first-requires : tie.Need-judge-first-requires
-judge-first-requires c κs = search needs
+judge-first-requires c κs = tt
 
 enum-known-judged : tie.Need-enum-known-judged
 enum-known-judged c = search needs

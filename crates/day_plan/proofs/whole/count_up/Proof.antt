@@ -12,7 +12,7 @@ abbrev μ-loop : tie.MeasureT-loop
 μ-loop size whole₀ i₀ whole i = size - i
 
 row-numbers-requires : tie.Need-row-numbers-requires Inv-loop μ-loop
-row-numbers-requires c κs = search needs
+row-numbers-requires c κs = tt
 
 loop-holds : tie.Need-loop-holds Inv-loop μ-loop
 loop-holds c = up-start _ _ (c .before .pre) (c .row-numbers .ensures)

@@ -7,7 +7,7 @@ use Rattle.constraint_map.specs.Map.{mapOf}
 use Rattle.search_input.specs.Given.{givenOf}
 use Rattle.search_input.specs.Judged.{dayJudged}
 use Rattle.search_input.proofs.JudgedLaws.{day-alone, lent-alone}
-use Rattle.scheduling_solver.proofs.CallSteps.{day-refused, sets-refused, sets-found, lent-refused, few-looked, passes-ready, passes-answer}
+use Rattle.scheduling_solver.proofs.CallSteps.{day-refused, sets-refused, sets-found, lent-refused, passes-ready, passes-answer}
 use borrow.Author.Needs.{needs}
 use Rattle.scheduling_solver.proofs.search.search.Statement.{statement}
 use Rattle.scheduling_solver.proofs.search.search.Tie as tie
@@ -79,7 +79,7 @@ slice-aggregate-passes-from-2 : tie.Need-slice-aggregate-passes-from-2
 slice-aggregate-passes-from-2 c = search needs
 
 passes-from-requires : tie.Need-passes-from-requires
-passes-from-requires c κs = let s = c .before .before .before .before .before .before .before .before .before .before .before .before .before .before .before .before .before .before .before .before .before .before .before .before .before .before .before .before .before .before .before .before .before .before .before .before in let given = givenOf (s .args .counts) (s .args .mins .now) (s .args .maxs .now) (s .args .optional .now) (s .args .levels .now) (s .args .preferences .now) (s .args .rows .now) (mapOf (s .args .starts .now) (s .args .lengths .now) (s .args .numbers .now)) (s .args .whole .now) (s .args .orders .now) (s .args .draws .now) in let d : dayJudged given (s .args .plan .now) ≡ good = (sym (day-alone _ _ _ _ _ _ _ _ _ _ _ _) ∙ sym (told-by (c .before .before .before .before .before .before .before .before .before .before .before .before .before .before .before .before .before .before .before .before .before .judge-day .ensures) (c .before .before .before .before .before .before .before .before .before .before .before .before .before .before .before .before .before .before .before .enum-told .given .1))) in let few = few-looked given (s .args .settings) (s .args .plan .now) d in (passes-ready given (s .args .settings) (s .args .plan .now) d (sets-found given (s .args .settings) (s .args .plan .now) d _ _ (c .before .before .before .before .before .before .before .before .before .before .before .before .before .before .before .before .before .before .no-sets .ensures) (c .before .before .before .before .before .before .before .before .before .before .before .before .before .before .before .before .before .no-levels .ensures) (c .before .before .before .before .before .before .before .before .before .before .before .before .before .before .before .before .day-counts .ensures) (c .before .before .before .before .before .before .before .before .before .before .before .before .before .analyze .ensures) (c .before .before .before .before .before .before .before .before .before .analyzed2 .given .1)) (sym (lent-alone _ _ _ _ _ _ _ _ _ _ _ []) ∙ sym (told-by (c .before .before .before .before .before .before .before .judge-lent .ensures) (c .before .before .before .before .before .enum-told2 .given .1))) (c .before .before .before .before .row-counts .ensures) (sym (c .before .before .before .before .before .before .before .before .before .before .before .before .masks2 .given)) (sym (c .before .before .before .before .before .before .before .before .before .before .before .set-levels2 .given)), few .0, few .1)
+passes-from-requires c κs = let s = c .before .before .before .before .before .before .before .before .before .before .before .before .before .before .before .before .before .before .before .before .before .before .before .before .before .before .before .before .before .before .before .before .before .before .before .before in let given = givenOf (s .args .counts) (s .args .mins .now) (s .args .maxs .now) (s .args .optional .now) (s .args .levels .now) (s .args .preferences .now) (s .args .rows .now) (mapOf (s .args .starts .now) (s .args .lengths .now) (s .args .numbers .now)) (s .args .whole .now) (s .args .orders .now) (s .args .draws .now) in let d : dayJudged given (s .args .plan .now) ≡ good = (sym (day-alone _ _ _ _ _ _ _ _ _ _ _ _) ∙ sym (told-by (c .before .before .before .before .before .before .before .before .before .before .before .before .before .before .before .before .before .before .before .before .before .judge-day .ensures) (c .before .before .before .before .before .before .before .before .before .before .before .before .before .before .before .before .before .before .before .enum-told .given .1))) in passes-ready given (s .args .settings) (s .args .plan .now) d (sets-found given (s .args .settings) (s .args .plan .now) d _ _ (c .before .before .before .before .before .before .before .before .before .before .before .before .before .before .before .before .before .before .no-sets .ensures) (c .before .before .before .before .before .before .before .before .before .before .before .before .before .before .before .before .before .no-levels .ensures) (c .before .before .before .before .before .before .before .before .before .before .before .before .before .before .before .before .day-counts .ensures) (c .before .before .before .before .before .before .before .before .before .before .before .before .before .analyze .ensures) (c .before .before .before .before .before .before .before .before .before .analyzed2 .given .1)) (sym (lent-alone _ _ _ _ _ _ _ _ _ _ _ []) ∙ sym (told-by (c .before .before .before .before .before .before .before .judge-lent .ensures) (c .before .before .before .before .before .enum-told2 .given .1))) (c .before .before .before .before .row-counts .ensures) (sym (c .before .before .before .before .before .before .before .before .before .before .before .before .masks2 .given)) (sym (c .before .before .before .before .before .before .before .before .before .before .before .set-levels2 .given))
 
 same-length-3 : tie.Need-same-length-3
 same-length-3 c = search needs

@@ -1,7 +1,6 @@
 use Prim.Native.Nat.{_-_}
 use native.Mathlib.Omega.{arith}
 use lib.ListN.{length}
-use borrow.Author.Needs.{needs}
 use Rattle.search_pass.proofs.PlanLaws.{Adding, adding-start, adding-more, adding-end, choice-there}
 use Rattle.search_pass.proofs.pass.all_max.Statement.{statement}
 use Rattle.search_pass.proofs.pass.all_max.Tie as tie
@@ -26,8 +25,7 @@ shared-slice-read-wide c =
 
 -- src/pass.rt:37:33
 wide-requires : tie.Need-wide-requires Inv-loop μ-loop
-wide-requires c κs =
-    search needs
+wide-requires c κs = tt
 
 -- src/pass.rt:37:28
 mul-wide-amount : tie.Need-mul-wide-amount Inv-loop μ-loop
@@ -41,8 +39,7 @@ shared-slice-read-wide-amount c =
 
 -- src/pass.rt:37:16
 wide-amount-requires : tie.Need-wide-amount-requires Inv-loop μ-loop
-wide-amount-requires c κs =
-    search needs
+wide-amount-requires c κs = tt
 
 -- src/pass.rt:37:9
 add-sum : tie.Need-add-sum Inv-loop μ-loop

@@ -1,0 +1,29 @@
+use Rattle.search_depth.proofs.DepthLaws.{open-none, open-some}
+use borrow.Author.Needs.{needs}
+use Rattle.search_depth.proofs.depth.open_depth.Statement.{statement}
+use Rattle.search_depth.proofs.depth.open_depth.Tie as tie
+
+-- src/depth.rt:57:9
+returns : tie.Need-returns
+returns c =
+    open-none _ _ _ (c .if1 .taken)
+
+-- src/depth.rt:62:9
+rows-of-requires : tie.Need-rows-of-requires
+rows-of-requires c κs = tt
+
+-- src/depth.rt:63:5
+fill-requires : tie.Need-fill-requires
+fill-requires c κs = tt
+
+-- src/depth.rt:38:1
+same-length : tie.Need-same-length
+same-length c = search needs
+
+-- src/depth.rt:38:1
+returns-2 : tie.Need-returns-2
+returns-2 c =
+    open-some _ _ _ _ _ _ _ _ _ _ (c .before .before .before .before .before .if1 .left) (c .before .before .before .before .rows-of .ensures) (c .before .before .fill .ensures)
+
+pub open-depth-spec : {M : Type 1} → statement M
+open-depth-spec = tie.close (tie.spec returns rows-of-requires fill-requires same-length returns-2)
