@@ -7,7 +7,7 @@ from cases.common import possible_kinds, random_row, row, u16s
 from cases.search_refusals import BAD_ROWS, NO_ENTRY, NUMBERS
 
 SEED = 1_012
-FILE = "crates/replay_search/data/maps"
+FILE = "crates/replay_maps/data/cases"
 KINDS = range(1, 7)
 
 

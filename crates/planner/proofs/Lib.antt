@@ -1,6 +1,5 @@
 -- The laws of the definitions in specs/, and those that the proofs of the functions cite.
-pub mod CallLaws
 pub mod FileLaws
 pub mod ReduceLaws
 pub mod SearchLaws
-pub mod ListedLaws
+pub mod MadeLaws

@@ -25,14 +25,9 @@ use Rattle.constraints.specs.declared.Reduction.{Reduction}
 use Rattle.constraints.specs.declared.Reduced.{Reduced}
 use Rattle.constraints.specs.declared.Reduced.the-variants as reducedCase
 use Rattle.constraints.proofs.Lists.{result-lists}
-use Rattle.scheduling.specs.Day.{Day, dayOf}
-use Rattle.listing_nodes.specs.Judge.{lengthsFit, judgeOf}
-use Rattle.listing_nodes.proofs.JudgeLaws.{buffer-decides, judge-good}
-use Rattle.plans_lines.specs.Lines.{clash}
-use Rattle.plans_lines.specs.Lines as answer
-use Rattle.planner.specs.Answer.{withRows, searchDay, listAnswer, reduceAnswer}
+use Rattle.planner.specs.Prepared.{Prepared, ready, clash, reducedTo}
+use Rattle.planner.specs.Prepared as prepared
 use Rattle.planner.specs.steps.Given.{Given}
-use Rattle.planner.proofs.SearchLaws.{search-good}
 
 module _ (counts : Counts) (mins maxs optional rows : List ℕ) (g : Given counts mins maxs optional rows) where
   -- the rows of a read day are reduced, with no refusal but 6
@@ -69,27 +64,26 @@ module _ (counts : Counts) (mins maxs optional rows : List ℕ) (g : Given count
             }
         go false t h = absurd (refused-not-done (sym (ap (λ (o : Outcome Reduction (List ℕ)). o .answer) h)))
 
-    pub reduced-refused : {number : ℕ} {carried pool' : List ℕ} (first room budget : ℕ) → outcome (refused number carried) pool' ≡ reduceOf counts rows pool
-        → answer.refused number ≡ reduceAnswer counts mins maxs optional rows first room budget
-    unfolding reductionOf reduceAnswer
-    reduced-refused {number} {carried} {pool'} first room budget e = go (leb (length (expanded counts rows)) 1024) (e ∙ reduces pool long)
+    pub reduced-refused : {number : ℕ} {carried pool' : List ℕ} → outcome (refused number carried) pool' ≡ reduceOf counts rows pool → prepared.refused number ≡ reducedTo counts rows
+    unfolding reductionOf reducedTo
+    reduced-refused {number} {carried} {pool'} e = go (leb (length (expanded counts rows)) 1024) (e ∙ reduces pool long)
       where
         go : (b : Bool)
             → outcome (refused number carried) pool' ≡ cond b (outcome (done whole) (pad 1024 (reducedRows counts rows))) (outcome (refuse 6) (replicate 1024 0))
-            → answer.refused number ≡ cond b (cond (clashOf rows) clash (listAnswer (searchDay counts mins maxs optional rows) first room budget)) (answer.refused 6)
+            → prepared.refused number ≡ cond b (cond (clashOf rows) clash ready) (prepared.refused 6)
         go true h = absurd (refused-not-done (ap (λ (o : Outcome Reduction (List ℕ)). o .answer) h))
-        go false h = ap answer.refused (refused-number (ap (λ (o : Outcome Reduction (List ℕ)). o .answer) h))
+        go false h = ap prepared.refused (refused-number (ap (λ (o : Outcome Reduction (List ℕ)). o .answer) h))
 
   module _ {count : ℕ} {clashes : Bool} {pool : List ℕ} (r : Reduces count clashes pool) where
     -- a clash
-    pub clash-told : clashes ≡ true → (first room budget : ℕ) → clash ≡ reduceAnswer counts mins maxs optional rows first room budget
-    unfolding reduceAnswer
-    clash-told t first room budget = rw (r .few, sym (r .flagged) ∙ t)
+    pub clash-told : clashes ≡ true → clash ≡ reducedTo counts rows
+    unfolding reducedTo
+    clash-told t = rw (r .few, sym (r .flagged) ∙ t)
 
-    -- none: the day is listed with the search's rows
-    pub listed-told : clashes ≡ false → (first room budget : ℕ) → listAnswer (searchDay counts mins maxs optional rows) first room budget ≡ reduceAnswer counts mins maxs optional rows first room budget
-    unfolding reduceAnswer
-    listed-told f first room budget = rw (r .few, sym (r .flagged) ∙ f)
+    -- none: the day is ready
+    pub ready-told : clashes ≡ false → ready ≡ reducedTo counts rows
+    unfolding reducedTo
+    ready-told f = rw (r .few, sym (r .flagged) ∙ f)
 
     result-fits : length (reducedRows counts rows) ≤ 1024
     unfolding reducedRows
@@ -122,43 +116,25 @@ module _ (counts : Counts) (mins maxs optional rows : List ℕ) (g : Given count
     search-front {searches} e =
         ap (take searches) (r .held ∙ ap (pad 1024) parts ∙ append-assoc list (rosterList (reducedRows counts rows)) _) ∙ take-at list _ searches (sym e)
 
-  -- the listing refuses no day that was read and reduced
-  pub search-judged : (room : ℕ) → length (searchList (reducedRows counts rows)) ≤ 1024
-      → judgeOf (searchDay counts mins maxs optional rows) room (room * counts .choices) ≡ good
-  unfolding searchDay countsInRange
-  search-judged room few =
-      let w = within counts takes.Given (g .in-range) in
-      let day = searchDay counts mins maxs optional rows in
-      let size = room * counts .choices in
-      sym (judge-good day room size (rw (le-leb _ _ (w .choices), le-leb _ _ (w .slots), le-leb _ _ (w .choosers), le-leb _ _ few))
-      (sym (buffer-decides day room size (g .mins-fit) (g .maxs-fit) (g .optional-fits) refl) ∙ eq-eqb size size refl)
-      (sym (search-good counts rows (length (searchList (reducedRows counts rows))) (g .in-range) (g .rows-good)))
-      (g .flags-fit))
-
   -- ---- the call as the text's maker makes it
 
   module _ {result : Reduced} (pool : List ℕ) (long : 1024 ≡ length pool) {pool' : List ℕ} (e : outcome (reducedTells result) pool' ≡ reduceOf counts rows pool) where
     pub rows-case : {reduction : Reduction} → result ≡ reducedCase.Rows reduction → Reduces (reduction .count) (reduction .clash) pool'
     rows-case t = reduced-rows pool (sym long) (ap (λ (r : Reduced). outcome (reducedTells r) pool') (sym t) ∙ e)
 
-    pub refused-case : {why : Refusal} (first room budget : ℕ) → result ≡ reducedCase.Refused why → answer.refused (numberOf why) ≡ reduceAnswer counts mins maxs optional rows first room budget
-    refused-case first room budget t = reduced-refused pool (sym long) first room budget (ap (λ (r : Reduced). outcome (reducedTells r) pool') (sym t) ∙ e)
+    pub refused-case : {why : Refusal} → result ≡ reducedCase.Refused why → prepared.refused (numberOf why) ≡ reducedTo counts rows
+    refused-case t = reduced-refused pool (sym long) (ap (λ (r : Reduced). outcome (reducedTells r) pool') (sym t) ∙ e)
 
-  -- the day that is listed: its rows are as many as were counted
+  -- the search's rows, as many as were counted
   module _ {count : ℕ} {clashes : Bool} {pool : List ℕ} (r : Reduces count clashes pool) {searches : ℕ} (e : searches ≡ length (searchList (take count pool))) where
-    searches-are : searches ≡ length (searchList (reducedRows counts rows))
+    pub searches-are : searches ≡ length (searchList (reducedRows counts rows))
     searches-are = e ∙ ap (λ (l : List ℕ). length (searchList l)) (reduced-front r)
 
-    pub day-is : dayOf (withRows counts searches) mins maxs optional (take searches pool) ≡ searchDay counts mins maxs optional rows
-    unfolding searchDay
-    day-is =
-        ap (λ (l : List ℕ). dayOf (withRows counts searches) mins maxs optional l) (search-front r searches-are)
-        ∙ ap (λ (n : ℕ). dayOf (withRows counts n) mins maxs optional (searchList (reducedRows counts rows))) searches-are
+    pub searches-front : take searches pool ≡ searchList (reducedRows counts rows)
+    searches-front = search-front r searches-are
+
+    pub searches-few : searches ≤ 1024
+    searches-few = let h = search-fits r in let f = count-fits r in omega (arith, h, f, searches-are)
 
     pub searches-fit : searches ≤ length pool
-    searches-fit = let h = search-fits r in let f = count-fits r in let l = pool-length r in omega (arith, h, f, l, searches-are)
-
-    pub day-judged : (room : ℕ) → judgeOf (dayOf (withRows counts searches) mins maxs optional (take searches pool)) room (room * counts .choices) ≡ good
-    day-judged room =
-        ap (λ (d : Day). judgeOf d room (room * counts .choices)) day-is
-        ∙ search-judged room (let h = search-fits r in let f = count-fits r in omega (arith, h, f))
+    searches-fit = let h = searches-few in let l = pool-length r in omega (arith, h, l)

@@ -26,7 +26,7 @@ use Rattle.constraint.proofs.KindLaws.{takes-assignment}
 use Rattle.new_rows.specs.Turn.{kindOf}
 use Rattle.constraints.specs.Reduction.{reducedRows, searchList}
 use Rattle.constraints.proofs.TableKept.{Taken, result-taken}
-use Rattle.planner.specs.Answer.{withRows}
+use Rattle.planner.specs.Prepared.{withRows}
 
 -- ---- the count
 

@@ -1,3 +1,3 @@
-pub mod Answer
-pub mod Calls
+pub mod Prepared
+pub mod Made
 pub mod steps

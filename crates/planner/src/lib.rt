@@ -1,5 +1,6 @@
-// The programs' texts, each made whole from a file and its numbers.
+// What the programs' texts share: the pools for a file, the search's rows of its reduction, a refusal's line and what a text comes to.
 
 pub mod blank;
-pub mod plans;
+pub mod made;
+pub mod refusal;
 pub mod search_list;

@@ -22,7 +22,7 @@ fn search_one(number: u64) -> usize
 }
 
 // How many rows of a reduction are the search's.
-pub(crate) fn search_count(rows: &[u64]) -> usize
+pub fn search_count(rows: &[u64]) -> usize
     ensures { λ r. ⌜ r ≡ length (searchList (now (rows .entry))) ⌝ }
 {
     let mut count = 0;

@@ -2,9 +2,9 @@
 use libc::STDERR_FILENO;
 use libc::STDIN_FILENO;
 use libc::STDOUT_FILENO;
-use planner::plans::LONGEST_TEXT;
-use planner::plans::Made;
-use planner::plans::plans_text;
+use planner::made::Made;
+use plans_text::text::LONGEST_TEXT;
+use plans_text::text::plans_text;
 use texts::number::Number;
 use texts::number::number_of;
 ghost use mathlib.Core.Path.{_≡_};

@@ -1,4 +1,4 @@
-// Replays whole texts of the program `plans`, whose answers were told from document 01 alone.
+// Replays whole texts of the programs `plans` and `plan`, whose answers were told from document 01 alone.
 use cases::BLANK;
 use cases::Next;
 use cases::Tally;
@@ -10,23 +10,34 @@ use cases::plus;
 use cases::same;
 use cases::word;
 use constraint::refusal::Refusal;
-use planner::plans::LONGEST_TEXT;
-use planner::plans::Made;
-use planner::plans::plans_text;
+use plan_lines::lines;
+use plan_text::text::plan_text;
+use planner::made::Made;
+use plans_text::text::LONGEST_TEXT;
+use plans_text::text::plans_text;
 ghost use mathlib.Core.Path.{_≡_};
 ghost use lib.ListN.{length};
 
 // The length that marks a case with no text.
 const NO_TEXT: usize = 0xffff_ffff;
 
-// Where a record's file begins.
+// Where a record's file begins, of `plans` and of `plan`.
 const FILE_AT: usize = 28;
 
-// Room for the longest text.
+const PLAN_FILE_AT: usize = 4;
+
+// Room for the longest text of `plans`.
 fn text_pool() -> [u8; LONGEST_TEXT]
     ensures { λ r. ⌜ 288836 ≡ length r ⌝ }
 {
     [BLANK; LONGEST_TEXT]
+}
+
+// Room for the longest text of `plan`.
+fn plan_pool() -> [u8; lines::LONGEST_TEXT]
+    ensures { λ r. ⌜ 1311 ≡ length r ⌝ }
+{
+    [BLANK; lines::LONGEST_TEXT]
 }
 
 // Room for the longest record.
@@ -71,7 +82,22 @@ fn told_agrees(bytes: &[u8], at: usize, told: Made, text: &[u8]) -> bool {
     }
 }
 
-// One case: the first number, the room and the budget, a file with its length before it, then the answer.
+// One case of `plan`: a file with its length before it, then the answer.
+fn plan_agrees(bytes: &[u8], text: &mut [u8]) -> bool {
+    let size = (word(bytes, 0) as usize) * 65_536 + word(bytes, 2) as usize;
+    let end = size + PLAN_FILE_AT;
+    if bytes.len() < end {
+        return false;
+    }
+    fill(text, BLANK);
+    let told = plan_text(&bytes[PLAN_FILE_AT..end], text);
+    match told {
+        Made::Text(size) => text_agrees(bytes, end, size, text),
+        Made::Refused(_) => false,
+    }
+}
+
+// One case of `plans`: the first number, the room and the budget, a file with its length before it, then the answer.
 fn agrees(bytes: &[u8], text: &mut [u8]) -> bool {
     let size = (word(bytes, 24) as usize) * 65_536 + word(bytes, 26) as usize;
     let end = size + FILE_AT;
@@ -89,7 +115,7 @@ fn agrees(bytes: &[u8], text: &mut [u8]) -> bool {
     told_agrees(bytes, end, told, text)
 }
 
-// Every record of the file.
+// Every record of the file of `plans`.
 fn replay(file: i32, bytes: &mut [u8], text: &mut [u8]) -> Tally {
     let mut tally = Tally::new();
     let mut left = 0x1_0000_0000u64;
@@ -104,10 +130,29 @@ fn replay(file: i32, bytes: &mut [u8], text: &mut [u8]) -> Tally {
     tally
 }
 
+// Every record of the file of `plan`.
+fn replay_plan(file: i32, bytes: &mut [u8], text: &mut [u8]) -> Tally {
+    let mut tally = Tally::new();
+    let mut left = 0x1_0000_0000u64;
+    while 0 < left {
+        let next = cases::read_next(file, bytes);
+        let Next::Record(_) = next else {
+            return ended(next, tally);
+        };
+        tally = tally.with(plan_agrees(bytes, text));
+        left -= 1;
+    }
+    tally
+}
+
 fn main() {
-    let file = cases::open();
     let mut bytes = record_pool();
+    let file = cases::open();
     let mut text = text_pool();
     let tally = replay(file, &mut bytes, &mut text);
     tally.tell(b"plans");
+    let plan_file = os::open_read(b"plan");
+    let mut plan = plan_pool();
+    let second = replay_plan(plan_file, &mut bytes, &mut plan);
+    second.tell(b"plan");
 }

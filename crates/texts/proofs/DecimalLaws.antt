@@ -113,3 +113,8 @@ below-length (suc most) number (suc count) h = go (ltb number 10) refl (below-le
 pub decimal-short : (number : ℕ) → number < 1000 → length (decimal number) ≤ 3
 unfolding decimal
 decimal-short number h = below-length 20 number 2 h
+
+-- and one below 100 at most two
+pub decimal-two : (number : ℕ) → number < 100 → length (decimal number) ≤ 2
+unfolding decimal
+decimal-two number h = below-length 20 number 1 h

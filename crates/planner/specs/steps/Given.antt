@@ -2,13 +2,15 @@
 use mathlib.Core.Path.{_≡_}
 use mathlib.Core.Bool.{true}
 use mathlib.Core.List.{List}
-use Prim.Native.Nat.{ℕ}
+use Prim.Native.Nat.{ℕ, _*_, _≤_}
 use lib.ListN.{length}
 use Rattle.lists.specs.All.{allAtMost}
 use Rattle.constraint.specs.Check.{countsInRange, rowsJudged}
 use Rattle.constraint.specs.declared.check.Counts.{Counts}
 use Rattle.constraint.specs.declared.check.Takes.the-variants as takes
 use Rattle.constraint.specs.Told.{good}
+use Rattle.day_lists.specs.Levels.{levelsRise, lastLevel}
+use Rattle.day_file.specs.declared.counts.DayCounts.{DayCounts}
 
 -- what a file that is read has made sure of
 pub record Given (counts : Counts) (mins maxs optional rows : List ℕ) : Type 0 where
@@ -19,3 +21,12 @@ pub record Given (counts : Counts) (mins maxs optional rows : List ℕ) : Type 0
   pub rows-fit : length rows ≡ counts .rows
   pub rows-good : rowsJudged counts takes.Given rows ≡ good
   pub flags-fit : allAtMost 1 optional ≡ true
+
+-- and of its levels and preferences
+pub record GivenLevels (counts : DayCounts) (levels preferences : List ℕ) : Type 0 where
+  pub some : 1 ≤ counts .levels
+  pub few : counts .levels ≤ 64
+  pub levels-fit : length levels ≡ counts .levels
+  pub preferences-fit : length preferences ≡ counts .choosers * counts .choices
+  pub rise : levelsRise levels ≡ true
+  pub at-most : allAtMost (lastLevel levels) preferences ≡ true

@@ -1,0 +1,3 @@
+// The lines of the program `plan`, each put into a pool of bytes.
+
+pub mod lines;

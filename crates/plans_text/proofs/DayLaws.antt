@@ -1,0 +1,91 @@
+-- What a day that is read and reduced answers, and that the listing takes it.
+use mathlib.Core.Path.{_≡_, refl, sym, _∙_, ap}
+use mathlib.Core.Bool.{Bool}
+use mathlib.Core.List.{List}
+use Prim.Native.Nat.{ℕ, _*_, _≤_}
+use native.Mathlib.Omega.{arith}
+use borrow.Author.Tests.{le-leb, eq-eqb}
+use lib.ListN.{length, take}
+use Rattle.constraint.specs.Check.{countsInRange}
+use Rattle.constraint.specs.Told.{good}
+use Rattle.constraint.specs.declared.check.Counts.{Counts}
+use Rattle.constraint.specs.declared.check.Takes.the-variants as takes
+use Rattle.constraint.proofs.CountLaws.{within}
+use Rattle.constraints.specs.Reduction.{reducedRows, searchList}
+use Rattle.day_file.specs.Day.{parts, rowCounts}
+use Rattle.day_file.specs.File.{countsIn, listsIn, dayIn, longestFile}
+use Rattle.day_file.specs.Calls.{fileJudged}
+use Rattle.day_file.specs.declared.counts.DayCounts.{DayCounts}
+use Rattle.scheduling.specs.Day.{Day, dayOf}
+use Rattle.listing_nodes.specs.Judge.{judgeOf}
+use Rattle.listing_nodes.proofs.JudgeLaws.{buffer-decides, judge-good}
+use Rattle.plans_lines.specs.Lines.{Answer, clash, refused}
+use Rattle.planner.specs.Prepared.{Prepared, reducedTo, preparedOf, withRows}
+use Rattle.planner.specs.Prepared as prepared
+use Rattle.planner.specs.steps.Given.{Given}
+use Rattle.planner.proofs.SearchLaws.{search-good}
+use Rattle.planner.proofs.ReduceLaws.{Reduces, searches-are, searches-front, searches-few}
+use Rattle.planner.proofs.FileLaws.{Filled, prepared-day, counts-are, mins-lent, maxs-lent, optional-lent, rows-lent}
+use Rattle.plans_text.specs.Answer.{searchDay, listAnswer, answerBy, reduceAnswer, dayListed, answerOf}
+
+-- ---- the reduction of a day
+
+module _ (counts : Counts) (mins maxs optional rows : List ℕ) (first room budget : ℕ) where
+  -- the listing of the day
+  abbrev list : Answer
+  list = listAnswer (searchDay counts mins maxs optional rows) first room budget
+
+  pub reduce-refused : {number : ℕ} → prepared.refused number ≡ reducedTo counts rows → refused number ≡ reduceAnswer counts mins maxs optional rows first room budget
+  unfolding reduceAnswer
+  reduce-refused e = ap (λ (p : Prepared). answerBy p list) e
+
+  pub reduce-clash : prepared.clash ≡ reducedTo counts rows → clash ≡ reduceAnswer counts mins maxs optional rows first room budget
+  unfolding reduceAnswer
+  reduce-clash e = ap (λ (p : Prepared). answerBy p list) e
+
+  pub reduce-ready : prepared.ready ≡ reducedTo counts rows → listAnswer (searchDay counts mins maxs optional rows) first room budget ≡ reduceAnswer counts mins maxs optional rows first room budget
+  unfolding reduceAnswer
+  reduce-ready e = ap (λ (p : Prepared). answerBy p list) e
+
+module _ (counts : Counts) (mins maxs optional rows : List ℕ) (g : Given counts mins maxs optional rows) where
+  -- the listing refuses no day that was read and reduced
+  pub search-judged : (room : ℕ) → length (searchList (reducedRows counts rows)) ≤ 1024
+      → judgeOf (searchDay counts mins maxs optional rows) room (room * counts .choices) ≡ good
+  unfolding searchDay countsInRange
+  search-judged room few =
+      let w = within counts takes.Given (g .in-range) in
+      let day = searchDay counts mins maxs optional rows in
+      let size = room * counts .choices in
+      sym (judge-good day room size (rw (le-leb _ _ (w .choices), le-leb _ _ (w .slots), le-leb _ _ (w .choosers), le-leb _ _ few))
+      (sym (buffer-decides day room size (g .mins-fit) (g .maxs-fit) (g .optional-fits) refl) ∙ eq-eqb size size refl)
+      (sym (search-good counts rows (length (searchList (reducedRows counts rows))) (g .in-range) (g .rows-good)))
+      (g .flags-fit))
+
+  -- the day that is listed: its rows are as many as were counted
+  module _ {count : ℕ} {clashes : Bool} {pool : List ℕ} (r : Reduces counts mins maxs optional rows g count clashes pool) {searches : ℕ} (e : searches ≡ length (searchList (take count pool))) where
+    pub day-is : dayOf (withRows counts searches) mins maxs optional (take searches pool) ≡ searchDay counts mins maxs optional rows
+    unfolding searchDay
+    day-is =
+        ap (λ (l : List ℕ). dayOf (withRows counts searches) mins maxs optional l) (searches-front counts mins maxs optional rows g r e)
+        ∙ ap (λ (n : ℕ). dayOf (withRows counts n) mins maxs optional (searchList (reducedRows counts rows))) (searches-are counts mins maxs optional rows g r e)
+
+    pub day-judged : (room : ℕ) → judgeOf (dayOf (withRows counts searches) mins maxs optional (take searches pool)) room (room * counts .choices) ≡ good
+    day-judged room =
+        ap (λ (d : Day). judgeOf d room (room * counts .choices)) day-is
+        ∙ search-judged room (let h = searches-few counts mins maxs optional rows g r e in omega (arith, h, searches-are counts mins maxs optional rows g r e))
+
+-- ---- a file
+
+module _ (file : List ℕ) (first room budget : ℕ) where
+  pub answer-refused : {number : ℕ} → prepared.refused number ≡ preparedOf file → refused number ≡ answerOf file first room budget
+  unfolding answerOf
+  answer-refused e = ap (λ (p : Prepared). answerBy p (dayListed (dayIn file) first room budget)) e
+
+  module _ (short : length file ≤ longestFile) {counts : DayCounts} {mins maxs optional levels preferences rows : List ℕ} (f : Filled file counts (parts mins maxs optional levels preferences rows)) where
+    good-answer : reduceAnswer (rowCounts (countsIn file)) (listsIn file (countsIn file) .mins) (listsIn file (countsIn file) .maxs) (listsIn file (countsIn file) .optional) (listsIn file (countsIn file) .rows) first room budget ≡ answerOf file first room budget
+    unfolding answerOf reduceAnswer
+    good-answer = ap (λ (p : Prepared). answerBy p (dayListed (dayIn file) first room budget)) (prepared-day file short (f .is-good))
+
+    pub day-answer : {asked : Counts} → asked ≡ rowCounts counts
+        → reduceAnswer asked (take (counts .choices) mins) (take (counts .choices) maxs) (take (counts .choices) optional) (take (counts .rows) rows) first room budget ≡ answerOf file first room budget
+    day-answer a = rw (counts-are file f a, mins-lent file f, maxs-lent file f, optional-lent file f, rows-lent file f) good-answer
