@@ -14,6 +14,7 @@ EXAMPLES = ROOT / "examples"
 
 sys.path.insert(0, str(ORACLE))
 sys.dont_write_bytecode = True
+import day_file  # noqa: E402
 import scope  # noqa: E402
 from cases import critical_sets, listing, plan_check, reduction, roster, search  # noqa: E402
 from cases.common import Draws, parts, random_row, record, row, u16s  # noqa: E402
@@ -270,6 +271,17 @@ def failing_searches():
     return bodies
 
 
+def example_search(name):
+    """The search of an example day as the program `plan` asks for it: reduced rows, full, simplified sets, no orders or draws."""
+    (choices, slots, choosers, _, _), stations, levels, preferences, given = day_file.read((EXAMPLES / name).read_bytes())
+    rows, _, _ = scope.reduced(choices, [row(*columns) for columns in given])
+    call = search.Call(slots, choosers, *zip(*stations))
+    call.rows = [row(*columns) for columns in rows if columns[0] <= 6]
+    call.levels = list(levels)
+    call.preferences = [list(preferences[choices * h:choices * (h + 1)]) for h in range(choosers)]
+    return call.but(mode=search.FULL, analysis=search.SIMPLIFIED, pass_budget=100_000, total_budget=1_000_000).body()
+
+
 MODES = {"as the Rust": search.AS_THE_RUST, "full": search.FULL}
 ANALYSES = {"no sets": search.OFF, "sets": search.ON, "simplified sets": search.SIMPLIFIED}
 # One count after another changed, from 24 choices, 5 slots and 80 rows.
@@ -303,6 +315,8 @@ SETS = {
     **{f"searches {mode}, {analysis}": ("search", partial(searches, MODES[mode], ANALYSES[analysis]))
        for mode in MODES for analysis in ANALYSES},
     "full searches whose placements fail": ("search", failing_searches),
+    **{f"the search of examples/{name}.day": ("search", partial(lambda name: [example_search(f"{name}.day")], name))
+       for name in ("sample", "morning", "skills-day", "course-day")},
     **{f"full searches of {size}, {analysis}": ("search", partial(searches, search.FULL, ANALYSES[analysis], size))
        for size in SIZES for analysis in ("no sets", "sets")},
 }

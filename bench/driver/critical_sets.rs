@@ -4,44 +4,11 @@
 use std::hint::black_box;
 
 use crate::measure::{Side, measure};
+use crate::thalluscrest::calls;
 use crate::wire::Input;
 use crate::{CriticalSet, CriticalSetAnalysis, InputData, day};
 
 const MOST_SETS: usize = 1_024;
-
-unsafe extern "C" {
-    /// The number of sets in the low half and the bound in the high half; the highest bit for a refusal.
-    fn worker_critical_sets(
-        choices: usize,
-        slots: usize,
-        choosers: usize,
-        analysis: u8,
-        mins: *const u16,
-        mins_length: usize,
-        levels: *const u16,
-        levels_length: usize,
-        preferences: *const u16,
-        preferences_length: usize,
-        masks: *mut u64,
-        masks_length: usize,
-        set_levels: *mut u16,
-        set_levels_length: usize,
-    ) -> u64;
-
-    /// The number of sets, or the highest bit for a refusal.
-    fn worker_level_list(
-        levels: *const u16,
-        levels_length: usize,
-        limit: u16,
-        masks: *const u64,
-        masks_length: usize,
-        set_levels: *const u16,
-        set_levels_length: usize,
-        count: usize,
-        list: *mut u64,
-        list_length: usize,
-    ) -> u64;
-}
 
 /// A day as each side holds it, and the pools that are lent.
 struct Case {
@@ -99,40 +66,28 @@ fn rust_critical_sets(case: &mut Case) -> CriticalSetAnalysis {
 
 #[inline(never)]
 #[unsafe(no_mangle)]
-fn rattle_critical_sets(case: &mut Case) -> (u64, u64) {
-    // Sound: each slice goes in as its pointer and its length, and neither call has a `requires`.
-    unsafe {
-        let answer = worker_critical_sets(
-            case.mins.len(),
-            case.slots,
-            case.choosers,
-            case.asked,
-            case.mins.as_ptr(),
-            case.mins.len(),
-            case.levels.as_ptr(),
-            case.levels.len(),
-            case.preferences.as_ptr(),
-            case.preferences.len(),
-            case.masks.as_mut_ptr(),
-            case.masks.len(),
-            case.set_levels.as_mut_ptr(),
-            case.set_levels.len(),
-        );
-        let count = usize::try_from(answer & 0xffff_ffff).expect("a count is small");
-        let listed = worker_level_list(
-            case.levels.as_ptr(),
-            case.levels.len(),
-            case.limit,
-            case.masks.as_ptr(),
-            case.masks.len(),
-            case.set_levels.as_ptr(),
-            case.set_levels.len(),
-            count,
-            case.list.as_mut_ptr(),
-            case.list.len(),
-        );
-        (answer, listed)
-    }
+fn rattle_critical_sets(case: &mut Case) -> [u64; 3] {
+    let figures = calls::analyze(
+        case.mins.len(),
+        case.slots,
+        case.choosers,
+        case.asked,
+        &case.mins,
+        &case.levels,
+        &case.preferences,
+        &mut case.masks,
+        &mut case.set_levels,
+    );
+    let [count, bound, ..] = figures.expect("the day is not refused");
+    let listed = calls::level_list(
+        &case.levels,
+        case.limit,
+        &case.masks,
+        &case.set_levels,
+        count as usize,
+        &mut case.list,
+    );
+    [count, bound, listed.expect("the sets are not refused")[0]]
 }
 
 fn members(set: &CriticalSet) -> u64 {
@@ -149,11 +104,9 @@ fn rust_answer(case: &mut Case) -> Vec<u64> {
 }
 
 fn rattle_answer(case: &mut Case) -> Vec<u64> {
-    let (answered, listed) = rattle_critical_sets(case);
-    let count = usize::try_from(answered & 0xffff_ffff).expect("a count is small");
-    let listed = usize::try_from(listed).expect("a count is small");
-    assert!(count <= MOST_SETS && listed <= MOST_SETS, "the day is not refused");
-    let mut answer = vec![answered >> 32, count as u64];
+    let [count, bound, listed] = rattle_critical_sets(case);
+    let mut answer = vec![bound, count];
+    let (count, listed) = (count as usize, listed as usize);
     answer.extend(&case.masks[..count]);
     answer.extend(case.set_levels[..count].iter().map(|&level| u64::from(level)));
     answer.extend(&case.list[..listed]);

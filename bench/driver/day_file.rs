@@ -3,26 +3,7 @@
 use std::hint::black_box;
 
 use crate::measure::{Side, measure};
-
-unsafe extern "C" {
-    /// 0 where the day stands in the pools, else 01's number of the refusal.
-    fn thalluscrest_read_day(
-        file: *const u8,
-        file_length: usize,
-        mins: *mut u16,
-        mins_length: usize,
-        maxs: *mut u16,
-        maxs_length: usize,
-        optional: *mut u8,
-        optional_length: usize,
-        levels: *mut u16,
-        levels_length: usize,
-        preferences: *mut u16,
-        preferences_length: usize,
-        rows: *mut u64,
-        rows_length: usize,
-    ) -> u8;
-}
+use crate::thalluscrest::{Figures, calls};
 
 /// A file, and the pools at their full limits.
 struct Case {
@@ -51,31 +32,21 @@ impl Case {
 
 #[inline(never)]
 #[unsafe(no_mangle)]
-fn rattle_read_day(case: &mut Case) -> u8 {
-    // Sound: each slice goes in as its pointer and its length, and the call has no `requires`.
-    unsafe {
-        thalluscrest_read_day(
-            case.file.as_ptr(),
-            case.file.len(),
-            case.mins.as_mut_ptr(),
-            case.mins.len(),
-            case.maxs.as_mut_ptr(),
-            case.maxs.len(),
-            case.optional.as_mut_ptr(),
-            case.optional.len(),
-            case.levels.as_mut_ptr(),
-            case.levels.len(),
-            case.preferences.as_mut_ptr(),
-            case.preferences.len(),
-            case.rows.as_mut_ptr(),
-            case.rows.len(),
-        )
-    }
+fn rattle_read_day(case: &mut Case) -> Figures {
+    let figures = calls::read_day(
+        &case.file,
+        &mut case.mins,
+        &mut case.maxs,
+        &mut case.optional,
+        &mut case.levels,
+        &mut case.preferences,
+        &mut case.rows,
+    );
+    figures.expect("the file is a day")
 }
 
 fn read_answer(case: &mut Case) -> Vec<u64> {
-    assert_eq!(rattle_read_day(case), 0, "the file is a day");
-    vec![0]
+    rattle_read_day(case).to_vec()
 }
 
 const SIDES: [Side<Case>; 1] = [Side {

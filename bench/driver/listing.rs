@@ -8,6 +8,7 @@
 use std::hint::black_box;
 
 use crate::measure::{Side, measure};
+use crate::thalluscrest::calls;
 use crate::wire::Input;
 
 const OMITTED: u8 = 255;
@@ -16,29 +17,8 @@ const MOST_SLOTS: usize = 24;
 const FIRST: u64 = 10;
 const ROOM: u64 = 50;
 const BUDGET: u64 = 10_000_000;
-
-unsafe extern "C" {
-    /// 0 with the three numbers of the plans; 1 out of turns; 100 more than a refusal's number.
-    fn thalluscrest_list_plans(
-        choices: usize,
-        slots: usize,
-        choosers: usize,
-        mins: *const u16,
-        mins_length: usize,
-        maxs: *const u16,
-        maxs_length: usize,
-        optional: *const u8,
-        optional_length: usize,
-        rows: *const u64,
-        rows_length: usize,
-        first: u64,
-        room: u64,
-        budget: u64,
-        buffer: *mut u8,
-        buffer_length: usize,
-        numbers: *mut u64,
-    ) -> u16;
-}
+/// What the call says of a page, as against out of turns.
+const LISTED: u64 = 1;
 
 struct Day {
     choices: usize,
@@ -278,63 +258,58 @@ impl Case {
 
 #[inline(never)]
 #[unsafe(no_mangle)]
-fn rust_list_plans(case: &mut Case) -> u16 {
+fn rust_list_plans(case: &mut Case) -> bool {
     let mut nodes = Nodes { day: &case.day, sums: [0; MOST_SLOTS], left: BUDGET };
     if !nodes.choice(0) {
-        return 1;
+        return false;
     }
     let visited = BUDGET - nodes.left;
     let mut plans = case.plans();
     plans.choice(0);
     let (leaves, total) = (plans.leaves, plans.total);
     case.listed(leaves, total, visited);
-    0
+    true
 }
 
 #[inline(never)]
 #[unsafe(no_mangle)]
-fn rust_list_once(case: &mut Case) -> u16 {
+fn rust_list_once(case: &mut Case) -> bool {
     let mut once = Once { plans: case.plans(), left: BUDGET };
     if !once.choice(0) {
-        return 1;
+        return false;
     }
     let (leaves, total, left) = (once.plans.leaves, once.plans.total, once.left);
     case.listed(leaves, total, BUDGET - left);
-    0
+    true
 }
 
 #[inline(never)]
 #[unsafe(no_mangle)]
-fn rattle_list_plans(case: &mut Case) -> u16 {
-    // Sound: each slice goes in as its pointer and its length, the three numbers as theirs, and the call has no `requires`.
-    unsafe {
-        thalluscrest_list_plans(
-            case.day.choices,
-            case.day.slots,
-            case.day.choosers,
-            case.day.mins.as_ptr(),
-            case.day.mins.len(),
-            case.day.maxs.as_ptr(),
-            case.day.maxs.len(),
-            case.day.optional.as_ptr(),
-            case.day.optional.len(),
-            case.day.rows.as_ptr(),
-            case.day.rows.len(),
-            FIRST,
-            ROOM,
-            BUDGET,
-            case.buffer.as_mut_ptr(),
-            case.buffer.len(),
-            case.numbers.as_mut_ptr(),
-        )
-    }
+fn rattle_list_plans(case: &mut Case) -> bool {
+    let day = &case.day;
+    let figures = calls::list_plans(
+        day.choices,
+        day.slots,
+        day.choosers,
+        &day.mins,
+        &day.maxs,
+        &day.optional,
+        &day.rows,
+        FIRST,
+        ROOM,
+        BUDGET,
+        &mut case.buffer,
+    );
+    let [outcome, written, total, nodes, ..] = figures.expect("the day is not refused");
+    case.numbers = [written, total, nodes];
+    outcome == LISTED
 }
 
 /// The numbers and the page that a call left.
-fn answer(case: &mut Case, list: fn(&mut Case) -> u16) -> Vec<u64> {
+fn answer(case: &mut Case, list: fn(&mut Case) -> bool) -> Vec<u64> {
     case.buffer.fill(0);
     case.numbers = [0; 3];
-    assert_eq!(list(case), 0, "the day is good and within its budget");
+    assert!(list(case), "the day is within its budget");
     let mut told = case.numbers.to_vec();
     told.extend(case.buffer.iter().map(|&place| u64::from(place)));
     told

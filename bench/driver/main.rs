@@ -37,7 +37,7 @@ mod day;
 mod rows;
 mod wire;
 
-#[cfg(worker_critical_sets)]
+#[cfg(thalluscrest_analyze)]
 mod critical_sets;
 #[cfg(thalluscrest_read_day)]
 mod day_file;
@@ -48,14 +48,15 @@ mod measure;
 mod plan_check;
 #[cfg(thalluscrest_reduce)]
 mod reduction;
-#[cfg(worker_check_roster)]
+#[cfg(thalluscrest_check_roster)]
 mod roster;
-#[cfg(worker_search)]
+#[cfg(thalluscrest_search)]
 mod ask_critical_sets;
-#[cfg(worker_search)]
+#[cfg(thalluscrest_search)]
 mod ask_search;
-#[cfg(worker_search)]
+#[cfg(thalluscrest_search)]
 mod search;
+mod thalluscrest;
 
 pub(crate) use assignment::Assignment;
 pub(crate) use choice_data::ChoiceData;
@@ -100,13 +101,13 @@ fn main() {
         "reduction" => reduction::run(&records, rounds),
         #[cfg(thalluscrest_read_day)]
         "day_file" => day_file::run(&records, rounds),
-        #[cfg(worker_critical_sets)]
+        #[cfg(thalluscrest_analyze)]
         "critical_sets" => critical_sets::run(&records, rounds),
         #[cfg(thalluscrest_list_plans)]
         "listing" => listing::run(&records, rounds),
-        #[cfg(worker_check_roster)]
+        #[cfg(thalluscrest_check_roster)]
         "roster" => roster::run(&records, rounds),
-        #[cfg(worker_search)]
+        #[cfg(thalluscrest_search)]
         "search" => search::run(&records, rounds),
         _ => panic!("no part {part} in this driver"),
     }

@@ -3,6 +3,7 @@
 use std::hint::black_box;
 
 use crate::measure::{Side, measure};
+use crate::thalluscrest::calls;
 use crate::wire::Input;
 use crate::{InputData, Scheduling, day, rows};
 
@@ -22,22 +23,6 @@ unsafe extern "C" {
         plan: *const u8,
         plan_length: usize,
     ) -> bool;
-
-    fn thalluscrest_check_plan(
-        choices: usize,
-        slots: usize,
-        choosers: usize,
-        mins: *const u16,
-        mins_length: usize,
-        maxs: *const u16,
-        maxs_length: usize,
-        optional: *const u8,
-        optional_length: usize,
-        rows: *const u64,
-        rows_length: usize,
-        plan: *const u8,
-        plan_length: usize,
-    ) -> u16;
 }
 
 /// A day and a plan as each side holds them.
@@ -121,25 +106,18 @@ fn rattle_is_feasible(case: &Case) -> bool {
 
 #[inline(never)]
 #[unsafe(no_mangle)]
-fn rattle_check_plan(case: &Case) -> u16 {
-    // Sound: as above.
-    unsafe {
-        thalluscrest_check_plan(
-            case.choices,
-            case.slots,
-            case.choosers,
-            case.mins.as_ptr(),
-            case.mins.len(),
-            case.maxs.as_ptr(),
-            case.maxs.len(),
-            case.optional.as_ptr(),
-            case.optional.len(),
-            case.rows.as_ptr(),
-            case.rows.len(),
-            case.plan.as_ptr(),
-            case.plan.len(),
-        )
-    }
+fn rattle_check_plan(case: &Case) -> u64 {
+    let figures = calls::check_plan(
+        case.choices,
+        case.slots,
+        case.choosers,
+        &case.mins,
+        &case.maxs,
+        &case.optional,
+        &case.rows,
+        &case.plan,
+    );
+    figures.expect("the day is not refused")[0]
 }
 
 const SIDES: [Side<Case>; 3] = [
@@ -156,7 +134,7 @@ const SIDES: [Side<Case>; 3] = [
     Side {
         name: "rattle_check_plan",
         run: |case| _ = black_box(rattle_check_plan(case)),
-        answer: |case| vec![u64::from(rattle_check_plan(case))],
+        answer: |case| vec![rattle_check_plan(case)],
     },
 ];
 

@@ -3,23 +3,11 @@
 use std::hint::black_box;
 
 use crate::measure::{Side, measure};
+use crate::thalluscrest::{Figures, calls};
 use crate::wire::Input;
 use crate::{Constraint, constraints, rows};
 
 const MOST_ROWS: usize = 1_024;
-
-unsafe extern "C" {
-    /// How many rows the pool holds; 65,536 for a clash; 100,000 more than a refusal's number.
-    fn thalluscrest_reduce(
-        choices: usize,
-        slots: usize,
-        choosers: usize,
-        rows: *const u64,
-        rows_length: usize,
-        pool: *mut u64,
-        pool_length: usize,
-    ) -> u64;
-}
 
 /// Given rows as each side holds them, and the pool that is lent.
 struct Case {
@@ -59,19 +47,9 @@ fn rust_reduce(case: &Case) -> (Vec<Constraint>, bool) {
 
 #[inline(never)]
 #[unsafe(no_mangle)]
-fn rattle_reduce(case: &mut Case) -> u64 {
-    // Sound: each slice goes in as its pointer and its length, and the call has no `requires`.
-    unsafe {
-        thalluscrest_reduce(
-            case.choices,
-            case.slots,
-            case.choosers,
-            case.rows.as_ptr(),
-            case.rows.len(),
-            case.pool.as_mut_ptr(),
-            case.pool.len(),
-        )
-    }
+fn rattle_reduce(case: &mut Case) -> Figures {
+    let figures = calls::reduce(case.choices, case.slots, case.choosers, &case.rows, &mut case.pool);
+    figures.expect("the rows are not refused")
 }
 
 fn rust_answer(case: &mut Case) -> Vec<u64> {
@@ -82,9 +60,9 @@ fn rust_answer(case: &mut Case) -> Vec<u64> {
 }
 
 fn rattle_answer(case: &mut Case) -> Vec<u64> {
-    let count = usize::try_from(rattle_reduce(case)).expect("an answer is small");
-    assert!(count <= MOST_ROWS, "the rows neither clash nor are refused");
-    let mut answer = vec![0];
+    let [count, clash, ..] = rattle_reduce(case);
+    let count = count as usize;
+    let mut answer = vec![clash];
     answer.extend(&case.pool[..count]);
     answer
 }

@@ -3,35 +3,9 @@
 use std::hint::black_box;
 
 use crate::measure::{Side, measure};
+use crate::thalluscrest::calls;
 use crate::wire::Input;
 use crate::{Assignment, InputData, Scoring, Solution, day, rows};
-
-/// What the call adds to the highest preference of a roster that passes.
-const PASSED: u32 = 65_536;
-
-unsafe extern "C" {
-    fn worker_check_roster(
-        choices: usize,
-        slots: usize,
-        choosers: usize,
-        mins: *const u16,
-        mins_length: usize,
-        maxs: *const u16,
-        maxs_length: usize,
-        levels: *const u16,
-        levels_length: usize,
-        preferences: *const u16,
-        preferences_length: usize,
-        rows: *const u64,
-        rows_length: usize,
-        assignment_rows: *const u64,
-        assignment_rows_length: usize,
-        plan: *const u8,
-        plan_length: usize,
-        roster: *const u8,
-        roster_length: usize,
-    ) -> u32;
-}
 
 /// A day, a plan and a roster as each side holds them.
 struct Case {
@@ -104,51 +78,42 @@ fn published(record: &[u8]) -> (InputData, Solution) {
 
 #[inline(never)]
 #[unsafe(no_mangle)]
-fn rust_check_roster(case: &Case) -> u32 {
+fn rust_check_roster(case: &Case) -> [u64; 2] {
     let passed = Scoring::is_feasible(&case.input_data, &case.solution);
     let highest = Scoring::evaluate_major(&case.input_data, &case.solution);
-    if passed { PASSED + highest } else { highest }
+    [u64::from(passed), u64::from(highest)]
 }
 
 #[inline(never)]
 #[unsafe(no_mangle)]
-fn rattle_check_roster(case: &Case) -> u32 {
-    // Sound: each slice goes in as its pointer and its length, and the call has no `requires`.
-    unsafe {
-        worker_check_roster(
-            case.choices,
-            case.slots,
-            case.choosers,
-            case.mins.as_ptr(),
-            case.mins.len(),
-            case.maxs.as_ptr(),
-            case.maxs.len(),
-            case.levels.as_ptr(),
-            case.levels.len(),
-            case.preferences.as_ptr(),
-            case.preferences.len(),
-            case.rows.as_ptr(),
-            case.rows.len(),
-            case.assignment_rows.as_ptr(),
-            case.assignment_rows.len(),
-            case.plan.as_ptr(),
-            case.plan.len(),
-            case.roster.as_ptr(),
-            case.roster.len(),
-        )
-    }
+fn rattle_check_roster(case: &Case) -> [u64; 2] {
+    let figures = calls::check_roster(
+        case.choices,
+        case.slots,
+        case.choosers,
+        &case.mins,
+        &case.maxs,
+        &case.levels,
+        &case.preferences,
+        &case.rows,
+        &case.assignment_rows,
+        &case.plan,
+        &case.roster,
+    );
+    let [passed, highest, ..] = figures.expect("the roster is not refused");
+    [passed, highest]
 }
 
 const SIDES: [Side<Case>; 2] = [
     Side {
         name: "rust_check_roster",
         run: |case| _ = black_box(rust_check_roster(case)),
-        answer: |case| vec![u64::from(rust_check_roster(case))],
+        answer: |case| rust_check_roster(case).to_vec(),
     },
     Side {
         name: "rattle_check_roster",
         run: |case| _ = black_box(rattle_check_roster(case)),
-        answer: |case| vec![u64::from(rattle_check_roster(case))],
+        answer: |case| rattle_check_roster(case).to_vec(),
     },
 ];
 

@@ -7,54 +7,13 @@ use crate::ask_search;
 use crate::measure::{Side, measure};
 use crate::scheduling_solver::SchedulingSolver;
 use crate::shotgun_solver::ProgressReporter;
+use crate::thalluscrest::calls;
 use crate::wire::Input;
 use crate::{Options, PreparedProblem, Rng};
 
 const OMITTED: u8 = 255;
 const MOST_CHOICES: usize = 64;
 const MOST_MAP_NUMBERS: usize = 10_240;
-
-unsafe extern "C" {
-    fn worker_search(
-        choices: usize,
-        slots: usize,
-        choosers: usize,
-        full: u8,
-        analysis: u8,
-        at_last_level: u8,
-        pass_budget: u64,
-        total_budget: u64,
-        mins: *const u16,
-        mins_length: usize,
-        maxs: *const u16,
-        maxs_length: usize,
-        optional: *const u8,
-        optional_length: usize,
-        levels: *const u16,
-        levels_length: usize,
-        preferences: *const u16,
-        preferences_length: usize,
-        rows: *const u64,
-        rows_length: usize,
-        starts: *const u16,
-        starts_length: usize,
-        lengths: *const u16,
-        lengths_length: usize,
-        count: usize,
-        numbers: *const u16,
-        numbers_length: usize,
-        whole: *const u16,
-        whole_length: usize,
-        orders: *const u8,
-        orders_length: usize,
-        draws: *const u32,
-        draws_length: usize,
-        plan: *mut u8,
-        plan_length: usize,
-        figures: *mut u64,
-        figures_length: usize,
-    );
-}
 
 /// A day with its own map and what is lent, as each side holds them.
 struct Case {
@@ -182,48 +141,31 @@ fn rattle_search(case: &mut Case) {
 
 #[inline(always)]
 fn call(case: &mut Case) {
-    // Sound: each slice goes in as its pointer and its length, and the call has no `requires`.
-    unsafe {
-        worker_search(
-            case.choices,
-            case.slots,
-            case.choosers,
-            u8::from(case.lent.full),
-            case.analysis,
-            u8::from(case.lent.start_at_last),
-            case.lent.pass_budget,
-            case.lent.total_budget,
-            case.mins.as_ptr(),
-            case.mins.len(),
-            case.maxs.as_ptr(),
-            case.maxs.len(),
-            case.optional.as_ptr(),
-            case.optional.len(),
-            case.levels.as_ptr(),
-            case.levels.len(),
-            case.preferences.as_ptr(),
-            case.preferences.len(),
-            case.rows.as_ptr(),
-            case.rows.len(),
-            case.starts.as_ptr(),
-            case.starts.len(),
-            case.lengths.as_ptr(),
-            case.lengths.len(),
-            case.count,
-            case.numbers.as_ptr(),
-            case.numbers.len(),
-            case.whole.as_ptr(),
-            case.whole.len(),
-            case.orders.as_ptr(),
-            case.orders.len(),
-            case.draws.as_ptr(),
-            case.draws.len(),
-            case.plan.as_mut_ptr(),
-            case.plan.len(),
-            case.figures.as_mut_ptr(),
-            case.figures.len(),
-        );
-    }
+    let figures = calls::search(
+        case.choices,
+        case.slots,
+        case.choosers,
+        u8::from(case.lent.full),
+        case.analysis,
+        u8::from(case.lent.start_at_last),
+        case.lent.pass_budget,
+        case.lent.total_budget,
+        &case.mins,
+        &case.maxs,
+        &case.optional,
+        &case.levels,
+        &case.preferences,
+        &case.rows,
+        &case.starts,
+        &case.lengths,
+        case.count,
+        &case.numbers,
+        &case.whole,
+        &case.orders,
+        &case.draws,
+        &mut case.plan,
+    );
+    case.figures.copy_from_slice(&figures.expect("the day is not refused")[..4]);
 }
 
 const SIDES: [Side<Case>; 2] = [

@@ -1,3 +1,4 @@
--- That a call's number tells what the library's own call answers, and that no two outcomes fit.
-pub mod NumberLaws
+-- That a call tells in other languages what the library's own call answers and leaves, where a reduction's pool is cut, and that no two outcomes fit.
+pub mod CrossingLaws
+pub mod ReducedLists
 pub mod Outcomes

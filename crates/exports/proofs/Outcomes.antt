@@ -1,16 +1,21 @@
--- No two outcomes fit: a number with its buffers settles both, whatever the call.
+-- No two outcomes fit: the promise of a call settles its number, its figures and its buffers, whatever the call.
 use mathlib.Core.Path.{_≡_, ap}
+use mathlib.Core.List.{List}
 use Prim.Native.Nat.{ℕ}
 use Rattle.lists.proofs.Outcome.{no-two}
-use Rattle.exports.specs.Answers.{Numbered, numbered}
+use Rattle.call_figures.specs.Crossing.{Answer, answer, Crossed, crossed}
 
 -- of every call that leaves buffers
-pub one-call : {B : Type 0} {given : Numbered B} {number other : ℕ} {buffers rest : B} → numbered number buffers ≡ given → numbered other rest ≡ given
-    → (number ≡ other) × (buffers ≡ rest)
+pub one-call : {B : Type 0} {given : Crossed B} {number other : ℕ} {figures rest : List ℕ} {buffers after : B}
+    → crossed number figures buffers ≡ given → crossed other rest after ≡ given
+    → (number ≡ other) × (figures ≡ rest) × (buffers ≡ after)
 one-call {B} p q =
     let e = no-two p q in
-    (ap (λ (n : Numbered B). n .number) e, ap (λ (n : Numbered B). n .buffers) e)
+    (ap (λ (c : Crossed B). c .answer .number) e, ap (λ (c : Crossed B). c .answer .figures) e, ap (λ (c : Crossed B). c .buffers) e)
 
--- of the plan check, which leaves none
-pub one-number : {given number other : ℕ} → number ≡ given → other ≡ given → number ≡ other
-one-number = no-two
+-- of those that leave none: the checks of a plan and of a roster
+pub one-answer : {given : Answer} {number other : ℕ} {figures rest : List ℕ}
+    → answer number figures ≡ given → answer other rest ≡ given → (number ≡ other) × (figures ≡ rest)
+one-answer p q =
+    let e = no-two p q in
+    (ap (λ (a : Answer). a .number) e, ap (λ (a : Answer). a .figures) e)

@@ -1,0 +1,59 @@
+-- Which figure says what after each call that isn't refused, from place 0 on.
+use mathlib.Core.Bool.{Bool, cond}
+use mathlib.Core.List.{List, [], _∷_}
+use Prim.Native.Nat.{ℕ}
+use lib.ListN.{length}
+use Rattle.constraint.specs.Told.{Outcome}
+use Rattle.constraints.specs.Reduction.{searchList, rosterList}
+use Rattle.constraints.specs.declared.Reduction.{Reduction}
+use Rattle.critical_set_analysis.specs.Calls as sets
+use Rattle.day_file.specs.declared.counts.DayCounts.{DayCounts}
+use Rattle.listing.specs.Outcome.{PageTold, plansTold, turnsTold}
+use Rattle.demand.specs.Calls.{Settled, plan, noPlan, outOfTurns}
+use Rattle.scoring.specs.Check.{Scored}
+use Rattle.call_figures.specs.Crossing.{Crossed, across}
+
+-- yes is 1, no is 0
+abbrev pub flag : Bool → ℕ
+flag test = cond test 1 0
+
+-- a day read: C, S, H, L and the number of its rows
+abbrev pub dayFigures : DayCounts → List ℕ
+dayFigures counts =
+    counts .choices ∷ counts .slots ∷ counts .choosers ∷ counts .levels ∷ counts .rows ∷ 0 ∷ 0 ∷ 0 ∷ []
+
+-- a day written: the file's bytes; an own map: its numbers; a level's list: its sets
+abbrev pub oneFigure : ℕ → List ℕ
+oneFigure number = number ∷ 0 ∷ 0 ∷ 0 ∷ 0 ∷ 0 ∷ 0 ∷ 0 ∷ []
+
+-- a reduction: its rows, whether two slots clash, and how many of the rows are the search's, and the roster's, after them
+abbrev pub reductionFigures : List ℕ → Reduction → List ℕ
+reductionFigures pool reduction =
+    reduction .count ∷ flag (reduction .clash) ∷ length (searchList pool) ∷ length (rosterList pool) ∷ 0 ∷ 0 ∷ 0 ∷ 0 ∷ []
+
+-- its lists are counted in the pool as it leaves it
+abbrev pub reducedAcross : Outcome Reduction (List ℕ) → Crossed (List ℕ)
+reducedAcross left = across (reductionFigures (left .buffers)) left
+
+-- a plan checked: whether it is feasible
+abbrev pub checkFigures : Bool → List ℕ
+checkFigures feasible = flag feasible ∷ 0 ∷ 0 ∷ 0 ∷ 0 ∷ 0 ∷ 0 ∷ 0 ∷ []
+
+-- critical sets: how many, and the bound
+abbrev pub setsFigures : sets.Figures → List ℕ
+setsFigures kept = kept .count ∷ kept .bound ∷ 0 ∷ 0 ∷ 0 ∷ 0 ∷ 0 ∷ 0 ∷ []
+
+-- a search: 0 for none, 1 for found, 2 for out of turns; then 'turns, passes begun and the last limit'
+abbrev pub searchFigures : Settled → List ℕ
+searchFigures (noPlan figures) = 0 ∷ figures .turns ∷ figures .passes ∷ figures .limit ∷ 0 ∷ 0 ∷ 0 ∷ 0 ∷ []
+searchFigures (plan figures) = 1 ∷ figures .turns ∷ figures .passes ∷ figures .limit ∷ 0 ∷ 0 ∷ 0 ∷ 0 ∷ []
+searchFigures (outOfTurns figures) = 2 ∷ figures .turns ∷ figures .passes ∷ figures .limit ∷ 0 ∷ 0 ∷ 0 ∷ 0 ∷ []
+
+-- a roster checked: whether it passes, and the highest preference met
+abbrev pub rosterFigures : Scored → List ℕ
+rosterFigures scored = flag (scored .passed) ∷ scored .highest ∷ 0 ∷ 0 ∷ 0 ∷ 0 ∷ 0 ∷ 0 ∷ []
+
+-- plans listed: 1 for a page, with how many plans it has, how many there are and the nodes visited; 2 for out of turns
+abbrev pub pageFigures : PageTold → List ℕ
+pageFigures (plansTold written total nodes) = 1 ∷ written ∷ total ∷ nodes ∷ 0 ∷ 0 ∷ 0 ∷ 0 ∷ []
+pageFigures turnsTold = 2 ∷ 0 ∷ 0 ∷ 0 ∷ 0 ∷ 0 ∷ 0 ∷ 0 ∷ []

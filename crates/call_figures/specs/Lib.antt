@@ -1,0 +1,4 @@
+pub mod Crossing
+pub mod Layouts
+pub mod Codes
+pub mod steps

@@ -1,0 +1,66 @@
+// A plan and a roster checked, and plans listed.
+use super::refusal::put_refusal;
+use listing::list_plans::Listed;
+use scheduling::plan_check::PlanChecked;
+use scoring::roster_check::RosterChecked;
+ghost use mathlib.Core.Path.{_≡_};
+ghost use Rattle.listing.specs.Outcome.{listedTells};
+ghost use Rattle.scheduling.specs.Check.{planCheckedTells};
+ghost use Rattle.scoring.specs.Check.{rosterTells};
+ghost use Rattle.call_figures.specs.Crossing.{answer, told};
+ghost use Rattle.call_figures.specs.Layouts.{checkFigures, rosterFigures, pageFigures};
+
+// A plan checked: whether it is feasible.
+pub fn put_checked(checked: PlanChecked, figures: &mut [u64; 8]) -> u8
+    ensures { λ r. ⌜ answer r (now (figures .exit)) ≡ told checkFigures (planCheckedTells checked) ⌝ }
+{
+    match checked {
+        PlanChecked::Infeasible => {
+            *figures = [0, 0, 0, 0, 0, 0, 0, 0];
+            0
+        }
+        PlanChecked::Feasible => {
+            *figures = [1, 0, 0, 0, 0, 0, 0, 0];
+            0
+        }
+        PlanChecked::Refused(why) => put_refusal(why, figures),
+    }
+}
+
+// A roster checked: whether it passes, and the highest preference met.
+pub fn put_roster(checked: RosterChecked, figures: &mut [u64; 8]) -> u8
+    ensures { λ r. ⌜ answer r (now (figures .exit)) ≡ told rosterFigures (rosterTells checked) ⌝ }
+{
+    match checked {
+        RosterChecked::Fails(highest) => {
+            *figures = [0, highest as u64, 0, 0, 0, 0, 0, 0];
+            0
+        }
+        RosterChecked::Passes(highest) => {
+            *figures = [1, highest as u64, 0, 0, 0, 0, 0, 0];
+            0
+        }
+        RosterChecked::Refused(why) => put_refusal(why, figures),
+    }
+}
+
+// Plans listed: a page with its counts, or out of turns.
+pub fn put_listed(listed: Listed, figures: &mut [u64; 8]) -> u8
+    ensures { λ r. ⌜ answer r (now (figures .exit)) ≡ told pageFigures (listedTells listed) ⌝ }
+{
+    match listed {
+        Listed::Plans {
+            written,
+            total,
+            nodes,
+        } => {
+            *figures = [1, written, total, nodes, 0, 0, 0, 0];
+            0
+        }
+        Listed::Turns => {
+            *figures = [2, 0, 0, 0, 0, 0, 0, 0];
+            0
+        }
+        Listed::Refused(why) => put_refusal(why, figures),
+    }
+}
