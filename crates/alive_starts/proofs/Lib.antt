@@ -1,0 +1,3 @@
+-- The laws of any test of starts.
+pub mod AnyTest
+pub mod Visits
