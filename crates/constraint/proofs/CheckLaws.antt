@@ -9,11 +9,11 @@ use lib.Dec.{ltb, leb, eqb}
 use lib.ListN.{length, getD, drop}
 use Rattle.lists.specs.First.{firstFailing}
 use Rattle.lists.proofs.First.{first-passes, first-fails}
-use Rattle.constraint.specs.Kind.{columnsOf}
+use Rattle.kind_table.specs.Kinds.{columnsOf}
 use Rattle.constraint.specs.Row.{rowOf}
 use Rattle.constraint.specs.Told.{refused, refuse, good}
 use Rattle.constraint.specs.Check.{takesPart, columnHolds, rowKeeps, rowsJudged, countsInRange, mostRows, checkOf}
-use Rattle.constraint.specs.declared.kind.Columns.{Columns}
+use Rattle.kind_table.specs.declared.Columns.{Columns}
 use Rattle.constraint.specs.declared.check.Counts.{Counts}
 use Rattle.constraint.specs.declared.check.Takes.{Takes}
 

@@ -9,7 +9,7 @@ use lib.Dec.{ltb}
 use lib.ListN.{length, getD}
 use Rattle.lists.specs.First.{firstFailing}
 use Rattle.lists.proofs.First.{first-before, first-le, first-at}
-use Rattle.constraint.specs.Kind.{columnsOf}
+use Rattle.kind_table.specs.Kinds.{columnsOf}
 use Rattle.constraint.specs.Row.{rowOf}
 use Rattle.constraint.specs.Told.{refused, good}
 use Rattle.constraint.specs.Check.{takesPart, columnHolds, rowKeeps, rowsJudged}

@@ -9,12 +9,12 @@ use lib.Dec.{leb}
 use lib.ListN.{length, List·getD-eq-default}
 use Rattle.lists.specs.Below.{allBelow}
 use Rattle.lists.proofs.Below.{all-each}
-use Rattle.constraint.specs.Kind.{kinds, columnsOf, line}
+use Rattle.kind_table.specs.Kinds.{kinds, columnsOf, line}
 use Rattle.constraint.specs.Check.{takesPart}
 use Rattle.constraint.specs.declared.check.Takes.{Takes}
 use Rattle.constraint.specs.declared.check.Takes.the-variants as takes
-use Rattle.constraint.specs.declared.kind.Part.the-variants as part
-use Rattle.constraint.specs.declared.kind.Name.the-variants as name
+use Rattle.kind_table.specs.declared.Part.the-variants as part
+use Rattle.kind_table.specs.declared.Name.the-variants as name
 
 -- the call takes the kind
 abbrev pub takesKind : Takes → ℕ → Bool

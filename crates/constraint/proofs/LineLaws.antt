@@ -7,14 +7,14 @@ use native.Mathlib.Omega.{arith}
 use lib.ListN.{List·getD-eq-default}
 use Rattle.lists.specs.Below.{allBelow}
 use Rattle.lists.proofs.Below.{all-each}
-use Rattle.constraint.specs.Kind.{kinds, columnsOf, line}
+use Rattle.kind_table.specs.Kinds.{kinds, columnsOf, line}
 use Rattle.constraint.specs.steps.Lines.{onLeft, onRight, onExtra}
 use Rattle.constraint.specs.Check.{takesPart, columnHolds}
-use Rattle.constraint.specs.declared.kind.Part.{Part}
-use Rattle.constraint.specs.declared.kind.Part.the-variants as part
-use Rattle.constraint.specs.declared.kind.Name.{Name}
-use Rattle.constraint.specs.declared.kind.Name.the-variants as name
-use Rattle.constraint.specs.declared.kind.Columns.{Columns}
+use Rattle.kind_table.specs.declared.Part.{Part}
+use Rattle.kind_table.specs.declared.Part.the-variants as part
+use Rattle.kind_table.specs.declared.Name.{Name}
+use Rattle.kind_table.specs.declared.Name.the-variants as name
+use Rattle.kind_table.specs.declared.Columns.{Columns}
 use Rattle.constraint.specs.declared.check.Counts.{Counts}
 use Rattle.constraint.specs.declared.check.Takes.{Takes}
 use Rattle.constraint.specs.declared.check.Takes.the-variants as takes

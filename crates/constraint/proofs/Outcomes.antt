@@ -4,13 +4,11 @@ use mathlib.Core.Bool.{Bool}
 use mathlib.Core.List.{List}
 use Prim.Native.Nat.{ℕ}
 use Rattle.lists.proofs.Outcome.{no-two}
-use Rattle.constraint.specs.Kind.{columnsOf}
 use Rattle.constraint.specs.Op.{isOp}
 use Rattle.constraint.specs.Refusal.{numberOf}
 use Rattle.constraint.specs.Row.{rowOf, rowNumber, plainRow}
 use Rattle.constraint.specs.Check.{rowKeeps, checkedTells, rowsJudged, countsInRange, checkOf}
 use Rattle.constraint.specs.Told.{done, refused, Verdict}
-use Rattle.constraint.specs.declared.kind.Columns.{Columns}
 use Rattle.constraint.specs.declared.refusal.Refusal.{Refusal}
 use Rattle.constraint.specs.declared.row.Row.{Row}
 use Rattle.constraint.specs.declared.check.Counts.{Counts}
@@ -21,9 +19,6 @@ use Rattle.constraint.proofs.ToldLaws.{refusalOf, refusal-back, one-ans
 
 pub one-refusal-number : (refusal : Refusal) {a b : ℕ} → a ≡ numberOf refusal → b ≡ numberOf refusal → a ≡ b
 one-refusal-number refusal = no-two
-
-pub one-columns : (kind : ℕ) {a b : Columns} → a ≡ columnsOf kind → b ≡ columnsOf kind → a ≡ b
-one-columns kind = no-two
 
 pub one-is-op : (extra : ℕ) {a b : Bool} → a ≡ isOp extra → b ≡ isOp extra → a ≡ b
 one-is-op extra = no-two

@@ -9,14 +9,14 @@ use lib.Dec.{leb}
 use lib.ListN.{List·getD-eq-default}
 use Rattle.lists.specs.Below.{allBelow}
 use Rattle.lists.proofs.Below.{all-each, and-right}
-use Rattle.constraint.specs.Kind.{kinds, columnsOf, line}
+use Rattle.kind_table.specs.Kinds.{kinds, columnsOf, line}
 use Rattle.constraint.specs.Row.{rowOf}
 use Rattle.constraint.specs.Check.{takesPart, columnHolds, rowKeeps}
-use Rattle.constraint.specs.declared.kind.Part.{Part}
-use Rattle.constraint.specs.declared.kind.Part.the-variants as part
-use Rattle.constraint.specs.declared.kind.Name.{Name}
-use Rattle.constraint.specs.declared.kind.Name.the-variants as name
-use Rattle.constraint.specs.declared.kind.Columns.{Columns}
+use Rattle.kind_table.specs.declared.Part.{Part}
+use Rattle.kind_table.specs.declared.Part.the-variants as part
+use Rattle.kind_table.specs.declared.Name.{Name}
+use Rattle.kind_table.specs.declared.Name.the-variants as name
+use Rattle.kind_table.specs.declared.Columns.{Columns}
 use Rattle.constraint.specs.declared.check.Counts.{Counts}
 use Rattle.constraint.specs.declared.check.Takes.the-variants as takes
 use Rattle.constraint.proofs.KindLaws.{takes-given}

@@ -7,14 +7,14 @@ use lib.IntN.{pos, negℤ}
 use lib.ListN.{length}
 use lib.Signed.{leZ}
 use Rattle.lists.specs.First.{firstFailing}
-use Rattle.constraint.specs.Kind.{columnsOf}
+use Rattle.kind_table.specs.Kinds.{columnsOf}
 use Rattle.constraint.specs.Op.{signedOf, extraOf, isOp}
 use Rattle.constraint.specs.Row.{rowOf}
 use Rattle.constraint.specs.Told.{Told, refused, Verdict, good, refusalTells, unless}
-use Rattle.constraint.specs.declared.kind.Part.{Part}
-use Rattle.constraint.specs.declared.kind.Part.the-variants as part
-use Rattle.constraint.specs.declared.kind.Name.{Name}
-use Rattle.constraint.specs.declared.kind.Name.the-variants as name
+use Rattle.kind_table.specs.declared.Part.{Part}
+use Rattle.kind_table.specs.declared.Part.the-variants as part
+use Rattle.kind_table.specs.declared.Name.{Name}
+use Rattle.kind_table.specs.declared.Name.the-variants as name
 use Rattle.constraint.specs.declared.check.Counts.{Counts}
 use Rattle.constraint.specs.declared.check.Takes.{Takes}
 use Rattle.constraint.specs.declared.check.Takes.the-variants as takes

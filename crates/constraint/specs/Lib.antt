@@ -1,5 +1,4 @@
 pub mod Check
-pub mod Kind
 pub mod Op
 pub mod Refusal
 pub mod Row

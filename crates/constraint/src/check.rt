@@ -1,14 +1,14 @@
 // The row check: the table of kinds held against each row of a list.
-use super::kind::Columns;
 use super::kind::Kind;
-use super::kind::Name;
-use super::kind::Part;
 use super::op::Op;
 use super::refusal::Refusal;
 use super::row::Row;
+use kind_table::Columns;
+use kind_table::Name;
+use kind_table::Part;
 ghost use mathlib.Core.Path.{_≡_};
 ghost use mathlib.Core.Bool.{true};
-ghost use Rattle.constraint.specs.Kind.{columnsOf};
+ghost use Rattle.kind_table.specs.Kinds.{columnsOf};
 ghost use Rattle.constraint.specs.Row.{rowOf};
 ghost use Rattle.constraint.specs.steps.Lines.{onLeft, onRight, onExtra};
 ghost use Rattle.constraint.specs.Check.{takesPart, columnHolds, rowKeeps, mostRows, countsInRange, checkedTells, rowsJudged, checkOf};

@@ -15,7 +15,7 @@ use Rattle.lists.proofs.Members.{member-each, member-part, member-if, member-un
 use Rattle.lists.proofs.Partition.{kept as kept-below, class-is}
 use Rattle.constraint.specs.Told.{good}
 use Rattle.constraint.specs.Check.{columnHolds, takesPart, rowKeeps, rowsJudged, countsInRange}
-use Rattle.constraint.specs.Kind.{columnsOf, kinds}
+use Rattle.kind_table.specs.Kinds.{columnsOf, kinds}
 use Rattle.constraint.specs.Row.{rowOf, rowNumber, plainRow}
 use Rattle.constraint.specs.declared.check.Counts.{Counts}
 use Rattle.constraint.specs.declared.check.Takes.{Takes}

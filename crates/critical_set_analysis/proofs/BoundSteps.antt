@@ -25,6 +25,11 @@ pub below : (level setLevel members : ℕ) → setLevel < level → isAbove leve
 unfolding isAbove
 below level setLevel members h = lt-leb level setLevel h
 
+-- the same from the code's test
+pub above-told : (level setLevel members : ℕ) {b : Bool} → leb level setLevel ≡ b → isAbove level (criticalSet setLevel members) ≡ b
+unfolding isAbove
+above-told level setLevel members e = e
+
 -- what is left decides, with whether one of that level or above was met
 unfoldable pub LowersFrom : ℕ → ℕ → List CriticalSet → Bool → ℕ → Type 0
 LowersFrom slots level sets some i =

@@ -3,7 +3,7 @@ use mathlib.Core.Path.{_≡_, refl, sym, _∙_, ap, ap₂}
 use mathlib.Core.Bool.{Bool, true, false, _&&_, _||_, not, cond}
 use mathlib.Core.List.{List, [], _∷_, _++_, append-nil}
 use Prim.Native.Nat.{ℕ, zero, suc, _+_, _*_, _-_, _≤_, _<_}
-use native.Mathlib.Nat.{mul-le-mul-right, le-refl, le-trans, suc-mul, mul-zero}
+use native.Mathlib.Nat.{mul-le-mul-right, le-refl, le-trans, suc-mul}
 use native.Mathlib.Numerals.{add-one}
 use native.Mathlib.Omega.{arith}
 use borrow.Author.Tests.{lt-ltb, le-ltb, le-leb, lt-leb, eq-eqb, ne-eqb}
@@ -27,13 +27,13 @@ use Rattle.critical_set_analysis.proofs.PoolSteps.{sets-length, sets-pu
 -- ---- covered, and staying beside
 
 module _ (level members otherLevel other : ℕ) where
-  pub not-covered : otherLevel < level → false ≡ coveredBy (criticalSet otherLevel other) (criticalSet level members)
+  pub not-covered : leb level otherLevel ≡ false → false ≡ coveredBy (criticalSet otherLevel other) (criticalSet level members)
   unfolding coveredBy
-  not-covered h = rw (lt-leb level otherLevel h)
+  not-covered h = rw h
 
-  pub covered-within : {b : Bool} → level ≤ otherLevel → b ≡ within other members → b ≡ coveredBy (criticalSet otherLevel other) (criticalSet level members)
+  pub covered-within : {b : Bool} → leb level otherLevel ≡ true → b ≡ within other members → b ≡ coveredBy (criticalSet otherLevel other) (criticalSet level members)
   unfolding coveredBy
-  covered-within h e = rw (le-leb level otherLevel h) e
+  covered-within h e = rw h e
 
 module _ (hereLevel here level members : ℕ) where
   pub stays-uncovered : coveredBy (criticalSet hereLevel here) (criticalSet level members) ≡ false → true ≡ staysBeside (criticalSet hereLevel here) (criticalSet level members)
@@ -91,10 +91,6 @@ module _ (level start : ℕ) (mins preferences : List ℕ) where
           set = s .set ∙ ap (λ (n : ℕ). setOf n λ c. leb (getD preferences (start + c) 0) level) e;
           added = s .added ∙ ap (λ (n : ℕ). sumBelow n λ c. cond (leb (getD preferences (start + c) 0) level) (getD mins c 0) 0) e;
         }
-
--- 'H*(S-1), 0 for S = 0'
-pub no-room : (choosers slots : ℕ) → slots ≡ 0 → 0 ≡ choosers * (slots - 1)
-no-room choosers slots e = rw e (sym (mul-zero choosers))
 
 -- ---- one candidate after those kept
 

@@ -1,6 +1,7 @@
 // The bound: 'the largest level, lowered to each level at which kept sets of that level or above exist and the smallest has at least S members'.
 use choice_sets::set::size;
 use day_lists::last_level;
+use level_tests::is_at_or_above;
 ghost use mathlib.Core.Path.{_≡_};
 ghost use mathlib.Core.Bool.{cond};
 ghost use Prim.Native.Nat.{_≤_, min};
@@ -18,7 +19,7 @@ fn lowers_bound(slots: usize, level: u16, masks: &[u64], levels: &[u16], count: 
     let mut some = false;
     let mut i = 0;
     while i < count {
-        if levels[i] < level {
+        if !is_at_or_above(levels[i], level) {
             i += 1;
             continue;
         }

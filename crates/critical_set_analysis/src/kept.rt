@@ -4,6 +4,8 @@ use super::candidate::candidate_of;
 use super::day::DayCounts;
 use super::limits::MOST_SETS;
 use choice_sets::set::is_within;
+use level_tests::all_but_one;
+use level_tests::is_not_higher;
 ghost use mathlib.Core.Path.{_≡_};
 ghost use Prim.Native.Nat.{_*_, _-_, _≤_, _<_};
 ghost use lib.ListN.{length, getD};
@@ -18,7 +20,7 @@ ghost use Rattle.critical_set_analysis.specs.steps.Pools.{Lent, Fits, Ke
 pub(crate) fn is_covered_by(level: u16, members: u64, other_level: u16, other: u64) -> bool
     ensures { λ r. ⌜ r ≡ coveredBy (criticalSet «other_level» other) (criticalSet level members) ⌝ }
 {
-    if other_level < level {
+    if !is_not_higher(level, other_level) {
         return false;
     }
     is_within(other, members)
@@ -71,10 +73,7 @@ fn room_of(counts: DayCounts) -> usize
     requires { ⌜ (counts .choosers ≤ 200) × (counts .slots ≤ 24) ⌝ }
     ensures { λ r. ⌜ r ≡ counts .choosers * (counts .slots - 1) ⌝ }
 {
-    if counts.slots == 0 {
-        return 0;
-    }
-    counts.choosers * (counts.slots - 1)
+    counts.choosers * all_but_one(counts.slots)
 }
 
 // 'choosers upwards': the sets of one level. The answer is past 1,024 where there are too many.

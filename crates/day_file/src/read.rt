@@ -10,6 +10,7 @@ use super::judge::rows_in;
 use super::word::word_at;
 use constraint::check::Checked;
 use constraint::refusal::Refusal;
+use file_words::rest_of;
 ghost use mathlib.Core.Path.{_≡_};
 ghost use mathlib.Core.Bool.{true};
 ghost use Prim.Native.Nat.{_≤_};
@@ -57,7 +58,7 @@ fn judge_head(file: &[u8]) -> Checked
     if file.len() < 11 {
         return Checked::Refused(Refusal::FileLength);
     }
-    if length_in(file) != file.len() - 4 {
+    if length_in(file) != rest_of(file.len()) {
         return Checked::Refused(Refusal::FileLength);
     }
     if file[4] != 1 {

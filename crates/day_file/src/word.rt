@@ -1,5 +1,7 @@
 // Numbers of two bytes, big-endian, and rows of six.
 use constraint::row::Row;
+use file_words::wide;
+use file_words::word_of;
 ghost use mathlib.Core.Path.{_≡_};
 ghost use Prim.Native.Nat.{_+_, _<_};
 ghost use lib.ListN.{length};
@@ -8,21 +10,12 @@ ghost use Rattle.day_file.specs.File.{wordAt, signBitFlipped, rowAt};
 // The longest file: every count at its limit.
 pub const LONGEST_FILE: usize = 26_827;
 
-// A byte as a number of two.
-fn wide(byte: u8) -> u16
-    ensures { λ r. ⌜ r ≡ byte ⌝ ∗ ⌜ r < 256 ⌝ }
-{
-    byte as u16
-}
-
 // The number that stands in the two bytes from a place on.
 pub(crate) fn word_at(file: &[u8], at: usize) -> u16
     requires { ⌜ at + 1 < length (now file) ⌝ }
     ensures { λ r. ⌜ r ≡ wordAt (now (file .entry)) at ⌝ }
 {
-    let high = wide(file[at]);
-    let low = wide(file[at + 1]);
-    high * 256 + low
+    word_of(file[at], file[at + 1])
 }
 
 // An extra from two's complement to 32,768 higher, as a row keeps it; and the same back.

@@ -5,7 +5,7 @@ use mathlib.Core.List.{List, List·Memᴰ, List·Memᴰ·not-nil}
 use Prim.Native.Nat.{ℕ, suc, _≤_}
 use borrow.Author.Tests.{ltb-true}
 use lib.ListN.{getD}
-use Rattle.constraint.specs.Kind.{kinds, columnsOf}
+use Rattle.kind_table.specs.Kinds.{kinds, columnsOf}
 use Rattle.constraint.specs.Row.{rowOf}
 use Rattle.constraint.specs.Told.{good}
 use Rattle.constraint.specs.Check.{columnHolds, rowsJudged}

@@ -12,7 +12,7 @@ use Rattle.constraint.proofs.ToldLaws.{done-is, refused-not-done, unless-done, 
 use Rattle.day_lists.specs.Levels.{lastLevel}
 use Rattle.scheduling.specs.Plan.{slotOf}
 use Rattle.scheduling.proofs.Meaning.{Placed, scheduled, left-out}
-use Rattle.scheduling.proofs.PlanLaws.{slot-at}
+use Rattle.plan_rows.proofs.PlanLaws.{slot-at}
 use Rattle.search_walk.specs.Turns.{turnsEnough}
 use Rattle.pass_rules.specs.Pass.{planOf}
 use Rattle.pass_rules.proofs.RowsAlong.{GoodPlan}

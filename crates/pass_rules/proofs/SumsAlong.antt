@@ -16,7 +16,7 @@ use Rattle.lists.proofs.Lists.{getD-any}
 use Rattle.lists.proofs.Sums.{count-sum}
 use Rattle.lists.proofs.SumBelow.{sum-ext, sum-zeros}
 use Rattle.scheduling.specs.Plan.{slotOf, omitted, standsIn, countIn, sumUpTo, sumIn}
-use Rattle.scheduling.proofs.PlanLaws.{stands-by, stands-omitted}
+use Rattle.plan_rows.proofs.PlanLaws.{stands-by, stands-omitted}
 use Rattle.insertion.proofs.InsertLaws.{sumOver-append}
 use Rattle.rows_allow.specs.Allow.{undecided, decisionOf}
 use Rattle.pass_rules.specs.Decided.{decided}

@@ -12,14 +12,14 @@ use Rattle.lists.specs.Keep.{keep}
 use Rattle.lists.proofs.Below.{and-left, and-right}
 use Rattle.lists.proofs.Keep.{drop-at-place, keep-append, kept-in}
 use Rattle.constraint.specs.Check.{countsInRange, columnHolds, rowKeeps, rowsJudged}
-use Rattle.constraint.specs.Kind.{columnsOf}
+use Rattle.kind_table.specs.Kinds.{columnsOf}
 use Rattle.constraint.specs.Row.{rowOf}
 use Rattle.constraint.specs.declared.check.Counts.{Counts}
 use Rattle.constraint.specs.declared.check.Takes.{Takes}
 use Rattle.constraint.specs.declared.check.Takes.the-variants as takes
 use Rattle.constraint.specs.Told.{good}
-use Rattle.constraint.specs.declared.kind.Name.{Name}
-use Rattle.constraint.specs.declared.kind.Name.the-variants as name
+use Rattle.kind_table.specs.declared.Name.{Name}
+use Rattle.kind_table.specs.declared.Name.the-variants as name
 use Rattle.constraint.specs.declared.row.Row.{Row}
 use Rattle.constraint.proofs.KeptLaws.{Kept, kept, keeps, each-good}
 use Rattle.constraint.proofs.KindLaws.{takes-assignment}

@@ -1,8 +1,8 @@
 // What the cells of a plan and of a roster must name.
 use constraint::check::Checked;
 use constraint::refusal::Refusal;
-use scheduling::plan::OMITTED;
-use scheduling::plan::slot_of;
+use plan_rows::plan::OMITTED;
+use plan_rows::plan::slot_of;
 ghost use mathlib.Core.Path.{_≡_};
 ghost use Rattle.lists.specs.All.{allOf};
 ghost use Rattle.constraint.specs.Check.{checkedTells};

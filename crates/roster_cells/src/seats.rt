@@ -1,6 +1,6 @@
 // The slots of a chooser's cells, and the seats of a choice.
-use scheduling::plan::OMITTED;
-use scheduling::plan::slot_of;
+use plan_rows::plan::OMITTED;
+use plan_rows::plan::slot_of;
 ghost use mathlib.Core.Path.{_≡_};
 ghost use mathlib.Core.Bool.{_&&_, _||_};
 ghost use Prim.Native.Nat.{_≤_};

@@ -15,7 +15,7 @@ use Rattle.lists.specs.Keep.{anyOf}
 use Rattle.lists.proofs.Outcome.{no-two}
 use Rattle.constraint.specs.declared.row.Row.{Row}
 use Rattle.scheduling.specs.Plan.{slotOf, omitted}
-use Rattle.scheduling.proofs.PlanLaws.{is-omitted, not-omitted}
+use Rattle.plan_rows.proofs.PlanLaws.{is-omitted, not-omitted}
 use Rattle.roster_rows.specs.Cells.{cellsOf}
 use Rattle.roster_rows.specs.Rows.{sortedBy, equalLists, choosersIn, choicesOf, isThere, keepsAssignmentRow, rosterKeeps}
 use Rattle.roster_rows.proofs.EqualLaws.{equal-means, equal-by, same-lists, sorted-times}

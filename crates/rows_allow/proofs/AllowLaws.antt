@@ -17,7 +17,7 @@ use Rattle.constraint.specs.Row.{rowOf}
 use Rattle.constraint.specs.declared.row.Row.{Row}
 use Rattle.scheduling.specs.Plan.{slotOf, omitted, countIn}
 use Rattle.scheduling.specs.Rows.{opHolds, slotsDiffer, offsetKept, keepsRow, keepsRows}
-use Rattle.scheduling.proofs.RowLaws.{op-eq, op-leq, op-lt, keeps-in-slot, keeps-not-in-slot, keeps-same-slot, keeps-not-same-slot, keeps-offset-row, keeps-limited-size, keeps-no-other}
+use Rattle.plan_rows.proofs.RowLaws.{op-eq, op-leq, op-lt, keeps-in-slot, keeps-not-in-slot, keeps-same-slot, keeps-not-same-slot, keeps-offset-row, keeps-limited-size, keeps-no-other}
 use Rattle.rows_allow.specs.Allow.{undecided, decisionOf, isUndecided, endsKeep, pairAllows, roomFor, roomAllows, rowAllows, eachAllows, limitHolds, limitsHold, rowsAllow}
 use Rattle.rows_allow.proofs.CaseLaws.{keep-same, keep-differ, keep-offset, pair-left-open, pair-right-open, room-eq, room-leq, room-lt, room-other, room-elsewhere, room-tried, limit-none, limit-six, allows-in-slot, allows-not-in-slot, allows-pair, allows-limited-size}
 

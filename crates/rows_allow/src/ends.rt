@@ -3,7 +3,7 @@ use super::decision::UNDECIDED;
 use super::decision::decision_of;
 use constraint::kind::Kind;
 use constraint::row::Row;
-use scheduling::plan::OMITTED;
+use plan_rows::plan::OMITTED;
 ghost use mathlib.Core.Path.{_≡_};
 ghost use mathlib.Core.List.{[], _∷_};
 ghost use Rattle.constraint.specs.Row.{rowOf};

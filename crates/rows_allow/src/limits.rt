@@ -2,7 +2,7 @@
 use constraint::kind::Kind;
 use constraint::op::Op;
 use constraint::row::Row;
-use scheduling::rows::op_holds;
+use plan_rows::rows::op_holds;
 ghost use mathlib.Core.Path.{_≡_};
 ghost use Prim.Native.Nat.{_+_};
 ghost use lib.ListN.{getD};

@@ -18,10 +18,10 @@ use Rattle.constraint.proofs.ToldLaws.{unless-done, then-done}
 use Rattle.constraint.proofs.CountLaws.{Within, within}
 use Rattle.scheduling.specs.Day.{Day}
 use Rattle.scheduling.specs.Feasible.{omissionAllowed, placeAllowed, placesAllowed, slotFits, lengthsFit, feasible, isFeasible}
-use Rattle.scheduling.specs.Plan.{slotOf}
-use Rattle.scheduling.specs.Rows.{keepsRows}
+use Rattle.plan_rows.specs.Plan.{slotOf}
+use Rattle.plan_rows.specs.Rows.{keepsRows}
 use Rattle.scheduling.specs.Check.{cellFits, flagsJudged, cellsJudged, beforeCells, planJudged, planCheckOf}
-use Rattle.scheduling.proofs.PlanLaws.{slot-at}
+use Rattle.plan_rows.proofs.PlanLaws.{slot-at}
 use Rattle.scheduling.proofs.FeasibleLaws.{worker-agrees}
 
 -- a plan cell

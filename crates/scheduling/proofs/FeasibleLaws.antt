@@ -9,7 +9,7 @@ use lib.ListN.{length}
 use Rattle.lists.specs.Below.{allBelow}
 use Rattle.lists.proofs.Below.{and-left, and-right}
 use Rattle.scheduling.specs.Day.{Day}
-use Rattle.scheduling.specs.Rows.{keepsRows}
+use Rattle.plan_rows.specs.Rows.{keepsRows}
 use Rattle.scheduling.specs.Feasible.{placesAllowed, slotFits, feasible, lengthsFit, shapesFit, isFeasible}
 use Rattle.scheduling.specs.steps.Sums.{Shapes}
 

@@ -5,7 +5,7 @@ use mathlib.Core.List.{List, _++_}
 use Prim.Native.Nat.{ℕ}
 use Rattle.lists.proofs.All.{all-append}
 use Rattle.constraint.specs.Row.{rowOf}
-use Rattle.scheduling.specs.Rows.{keepsRow, keepsRows}
+use Rattle.plan_rows.specs.Rows.{keepsRow, keepsRows}
 
 module _ (plan : List ℕ) where
   -- 'a plan keeps the joined list exactly when it keeps each'

@@ -9,13 +9,13 @@ use lib.Dec.{eqb, ltb, leb}
 use lib.ListN.{length, getD, set, replicate, length-set}
 use Rattle.lists.specs.All.{allOf}
 use Rattle.lists.proofs.Sums.{count-sum}
-use Rattle.scheduling.specs.Plan.{slotOf, standsIn, countIn, sumUpTo}
+use Rattle.plan_rows.specs.Plan.{slotOf, standsIn, countIn, sumUpTo}
 use Rattle.scheduling.specs.Check.{cellFits}
-use Rattle.scheduling.specs.Rows.{keepsRows}
+use Rattle.plan_rows.specs.Rows.{keepsRows}
 use Rattle.scheduling.specs.Kept.{keepsEvery}
 use Rattle.scheduling.specs.steps.Sizing.{Counted}
 use Rattle.scheduling.specs.steps.Sums.{Sizes}
-use Rattle.scheduling.proofs.PlanLaws.{slot-at}
+use Rattle.plan_rows.proofs.PlanLaws.{slot-at}
 use Rattle.scheduling.proofs.SumLaws.{Summing, summing-none, summing-skip, summing-put}
 use Rattle.scheduling.proofs.CheckLaws.{RestDecides, rest-start, rest-next, rest-fails, rest-none, cell-omitted, cell-slot}
 

@@ -19,10 +19,10 @@ use Rattle.constraint.specs.Op.{signedOf, eqOp, gtOp, geqOp, neqOp, leqOp, ltOp
 use Rattle.constraint.specs.Row.{rowOf}
 use Rattle.constraint.specs.declared.row.Row.{Row}
 use Rattle.scheduling.specs.Day.{Day}
-use Rattle.scheduling.specs.Plan.{slotOf, countIn, sumIn}
-use Rattle.scheduling.specs.Rows.{slotsDiffer, offsetKept, keepsRow, keepsRows}
+use Rattle.plan_rows.specs.Plan.{slotOf, countIn, sumIn}
+use Rattle.plan_rows.specs.Rows.{slotsDiffer, offsetKept, keepsRow, keepsRows}
 use Rattle.scheduling.specs.Feasible.{omissionAllowed, placeAllowed, placesAllowed, slotFits, feasible}
-use Rattle.scheduling.proofs.RowLaws.{op-eq, op-neq, op-gt, op-lt, op-geq, op-leq, differ-out, differ-in, offset-left-out, offset-right-out, offset-both, keeps-in-slot, keeps-not-in-slot, keeps-same-slot, keeps-not-same-slot, keeps-offset-row, keeps-limited-size}
+use Rattle.plan_rows.proofs.RowLaws.{op-eq, op-neq, op-gt, op-lt, op-geq, op-leq, differ-out, differ-in, offset-left-out, offset-right-out, offset-both, keeps-in-slot, keeps-not-in-slot, keeps-same-slot, keeps-not-same-slot, keeps-offset-row, keeps-limited-size}
 use Rattle.scheduling.proofs.SumLaws.{sum-fits}
 
 -- a choice stands in one of the day's slots, or is omitted and optional

@@ -7,8 +7,8 @@ use Rattle.lists.proofs.Outcome.{no-two}
 use Rattle.constraint.specs.Told.{Told, done, refused}
 use Rattle.constraint.proofs.ToldLaws.{refusalOf, refusal-back, one-answer, then-done, done-is}
 use Rattle.scheduling.specs.Day.{Day}
-use Rattle.scheduling.specs.Plan.{slotOf}
-use Rattle.scheduling.specs.Rows.{opHolds, slotsDiffer, offsetKept}
+use Rattle.plan_rows.specs.Plan.{slotOf}
+use Rattle.plan_rows.specs.Rows.{opHolds, slotsDiffer, offsetKept}
 use Rattle.scheduling.specs.Feasible.{feasible, isFeasible}
 use Rattle.scheduling.specs.Kept.{keepsEvery}
 use Rattle.scheduling.specs.Check.{planJudged, planCheckedTells, planCheckOf}
@@ -42,18 +42,6 @@ module _ (day : Day) (plan : List ℕ) where
       let d = then-done (planJudged day plan) (done (feasible day plan)) h in
       worker-judged day plan (d .0) ∙ done-is (d .1)
 
--- and none what the smaller functions do
-pub one-slot : (plan : List ℕ) (choice : ℕ) {a b : ℕ} → a ≡ slotOf plan choice → b ≡ slotOf plan choice → a ≡ b
-one-slot plan choice = no-two
-
-pub one-op : (op count limit : ℕ) {a b : Bool} → a ≡ opHolds op count limit → b ≡ opHolds op count limit → a ≡ b
-one-op op count limit = no-two
-
-pub one-difference : (plan : List ℕ) (left right : ℕ) {a b : Bool} → a ≡ slotsDiffer plan left right → b ≡ slotsDiffer plan left right → a ≡ b
-one-difference plan left right = no-two
-
-pub one-offset : (plan : List ℕ) (left right extra : ℕ) {a b : Bool} → a ≡ offsetKept plan left right extra → b ≡ offsetKept plan left right extra → a ≡ b
-one-offset plan left right extra = no-two
-
+-- and none what the rows alone do
 pub one-keeping : (plan rows : List ℕ) {a b : Bool} → a ≡ keepsEvery plan rows → b ≡ keepsEvery plan rows → a ≡ b
 one-keeping plan rows = no-two

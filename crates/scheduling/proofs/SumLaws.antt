@@ -12,10 +12,10 @@ use lib.Seq.{getD-set-same, getD-set-other}
 use Rattle.lists.specs.Below.{allBelow, sumBelow, countBelow}
 use Rattle.lists.proofs.Below.{and-left, all-more, one-fails, sum-more}
 use Rattle.lists.proofs.Sums.{all-ext, count-sum, sum-word}
-use Rattle.scheduling.specs.Plan.{slotOf, standsIn, countIn, sumUpTo, sumIn}
+use Rattle.plan_rows.specs.Plan.{slotOf, standsIn, countIn, sumUpTo, sumIn}
 use Rattle.scheduling.specs.Feasible.{omissionAllowed, placeAllowed, placesAllowed, slotFits}
 use Rattle.scheduling.specs.steps.Sums.{Shapes, Sums, Sizes, Added, listedFits}
-use Rattle.scheduling.proofs.PlanLaws.{slot-at, stands-omitted, stands-by}
+use Rattle.plan_rows.proofs.PlanLaws.{slot-at, stands-omitted, stands-by}
 
 -- the first choices' sums stand in the list, slot by slot
 unfoldable pub Summing : ℕ → (ℕ → ℕ) → List ℕ → List ℕ → Type 0
@@ -174,19 +174,6 @@ module _ (slots : ℕ) (mins maxs optional plan : List ℕ) where
               counts = λ slot. (rw e at (k .counted)) slot ∙ sym (count-sum (length plan) λ choice. standsIn plan choice slot);
             };
       }
-
--- an allowed omission is a byte of 255
-pub omission-is : (place flag : ℕ) → omissionAllowed place flag ≡ true → place ≡ 255
-unfolding omissionAllowed
-omission-is place flag t = eqb-true place 255 (and-left (eqb place 255) (eqb flag 1) t)
-
-pub omission-not : (place flag : ℕ) → (place ≡ 255 → ⊥) → false ≡ omissionAllowed place flag
-unfolding omissionAllowed
-omission-not place flag n = rw (ne-eqb _ _ n)
-
-pub omission-flag : (place flag : ℕ) → place ≡ 255 → eqb flag 1 ≡ omissionAllowed place flag
-unfolding omissionAllowed
-omission-flag place flag e = rw e
 
 -- the pass over the slots, with the sums that the code has read off the lists
 module _ (choosers : ℕ) (slotMin slotMax : List ℕ) (slot : ℕ) {low : ℕ} where

@@ -6,12 +6,10 @@ use lib.Dec.{eqb, ltb, leb}
 use lib.ListN.{length, getD}
 use Rattle.lists.specs.Below.{allBelow}
 use Rattle.scheduling.specs.Day.{Day}
-use Rattle.scheduling.specs.Plan.{slotOf, sumIn}
-use Rattle.scheduling.specs.Rows.{keepsRows}
-
--- 'Omitted needs optional': a byte of 255, of a choice whose flag is 1
-unfoldable pub omissionAllowed : ℕ → ℕ → Bool
-omissionAllowed place flag = eqb place 255 && eqb flag 1
+use Rattle.plan_rows.specs.Plan.{slotOf, sumIn}
+use Rattle.plan_rows.specs.Rows.{keepsRows}
+-- the omission's test, which stands beside the plan's bytes
+unfoldable pub use Rattle.plan_rows.specs.Plan.{omissionAllowed}
 
 -- a choice stands in one of the day's slots, or is omitted and may be
 unfoldable pub placeAllowed : ℕ → List ℕ → List ℕ → ℕ → Bool

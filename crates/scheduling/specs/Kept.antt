@@ -6,7 +6,7 @@ use lib.Dec.{leb}
 use lib.ListN.{length}
 use Rattle.lists.specs.All.{allOf}
 use Rattle.scheduling.specs.Check.{cellFits}
-use Rattle.scheduling.specs.Rows.{keepsRows}
+use Rattle.plan_rows.specs.Rows.{keepsRows}
 
 -- a plan of at most 64 choices, each in one of 24 slots or omitted, keeps every row
 unfoldable pub keepsEvery : List ℕ → List ℕ → Bool

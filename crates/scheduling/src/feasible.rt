@@ -1,14 +1,14 @@
 // The plan check on a day that is known to be one: a pass over the choices, one over the slots and one over the rows.
-use super::plan::OMITTED;
 use super::rows::keeps_rows;
 use constraint::check::Counts;
+use plan_rows::plan::omission_allowed;
 use pools::wide;
 ghost use mathlib.Core.Path.{_≡_};
 ghost use Prim.Native.Nat.{_+_, _≤_, _<_, _^_};
 ghost use lib.ListN.{getD, set, replicate};
 ghost use Rattle.lists.specs.Below.{allBelow};
 ghost use Rattle.scheduling.specs.Day.{dayOf};
-ghost use Rattle.scheduling.specs.Feasible.{omissionAllowed, feasible, lengthsFit, isFeasible};
+ghost use Rattle.scheduling.specs.Feasible.{feasible, lengthsFit, isFeasible};
 ghost use Rattle.scheduling.specs.steps.Sums.{Shapes, Added, listedFits};
 
 // A sum for each of the slots that a day may have, all 0.
@@ -38,16 +38,6 @@ fn wide_sum(sum: u32) -> usize
     ensures { λ r. ⌜ r ≡ sum ⌝ }
 {
     sum as usize
-}
-
-// 'Omitted needs optional': a byte that names no slot is 255, and its choice optional.
-fn omission_allowed(place: u8, optional: u8) -> bool
-    ensures { λ r. ⌜ r ≡ omissionAllowed place optional ⌝ }
-{
-    if place != OMITTED {
-        return false;
-    }
-    optional == 1
 }
 
 // One pass over the choices: each slot's sums of minimums and maximums and its count of choices, up to an omission that isn't allowed.

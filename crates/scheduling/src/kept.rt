@@ -1,8 +1,8 @@
 // Whether a plan keeps a list of rows, for calls that ask a plan's rows alone.
 use super::feasible::add_at;
 use super::feasible::no_sums;
-use super::plan::OMITTED;
 use super::rows::keeps_rows;
+use plan_rows::plan::OMITTED;
 use pools::wide;
 ghost use mathlib.Core.Path.{_≡_};
 ghost use Prim.Native.Nat.{_≤_};

@@ -2,6 +2,5 @@
 
 pub mod feasible;
 pub mod kept;
-pub mod plan;
 pub mod plan_check;
 pub mod rows;

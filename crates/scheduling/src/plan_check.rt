@@ -1,7 +1,6 @@
 // The plan check as a public call.
 use super::feasible::is_feasible;
 use super::feasible::lengths_fit;
-use super::plan::OMITTED;
 use constraint::check::Checked;
 use constraint::check::Counts;
 use constraint::check::Takes;
@@ -9,6 +8,7 @@ use constraint::check::check_each_row;
 use constraint::check::counts_in_range;
 use constraint::refusal::Refusal;
 use day_lists::flags_fit;
+use plan_rows::plan::OMITTED;
 ghost use mathlib.Core.Path.{_≡_};
 ghost use mathlib.Core.Bool.{true};
 ghost use Rattle.lists.specs.All.{allOf};

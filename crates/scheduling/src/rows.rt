@@ -1,83 +1,16 @@
 // Whether a plan keeps the rows of kinds 1 to 6, each by module 3's sentence.
-use super::plan::OMITTED;
-use super::plan::slot_of;
 use constraint::kind::Kind;
-use constraint::op::Op;
 use constraint::row::Row;
+use plan_rows::rows::in_slot;
+use plan_rows::rows::keeps_offset;
+use plan_rows::rows::op_holds;
+use plan_rows::rows::same_slot;
+use plan_rows::rows::slots_differ;
 ghost use mathlib.Core.Path.{_≡_};
-ghost use lib.Dec.{eqb};
 ghost use lib.ListN.{length, getD};
 ghost use Rattle.constraint.specs.Row.{rowOf};
-ghost use Rattle.scheduling.specs.Plan.{slotOf};
+ghost use Rattle.plan_rows.specs.Rows.{keepsRow, keepsRows};
 ghost use Rattle.scheduling.specs.steps.Sums.{Sizes};
-ghost use Rattle.scheduling.specs.Rows.{slotsDiffer, offsetKept, opHolds, keepsRow, keepsRows};
-
-// Kind 6's comparison: a slot's count of choices against the limit, by the op.
-pub fn op_holds(op: u16, count: u32, limit: u16) -> bool
-    ensures { λ r. ⌜ r ≡ opHolds op count limit ⌝ }
-{
-    match op {
-        Op::EQ => count == limit as u32,
-        Op::NEQ => count != limit as u32,
-        Op::GT => count > limit as u32,
-        Op::LT => count < limit as u32,
-        Op::GEQ => count >= limit as u32,
-        Op::LEQ => count <= limit as u32,
-        _ => false,
-    }
-}
-
-// Kinds 1 and 2. The slot is read on each of the two ways, so that they stay two and no byte is joined with 255.
-fn in_slot(plan: &[u8], number: u64) -> bool
-    ensures { λ r. ⌜ r ≡ eqb (slotOf (now (plan .entry)) (rowOf number .left)) (rowOf number .right) ⌝ }
-{
-    let at = Row::left_of(number) as usize;
-    if plan.len() <= at {
-        return OMITTED as u16 == Row::right_of(number);
-    }
-    plan[at] as u16 == Row::right_of(number)
-}
-
-// Kind 3: a way of its own for each choice past the plan's end, as above.
-fn same_slot(plan: &[u8], left: u16, right: u16) -> bool
-    ensures { λ r. ⌜ r ≡ eqb (slotOf (now (plan .entry)) left) (slotOf (now (plan .entry)) right) ⌝ }
-{
-    let from = left as usize;
-    if plan.len() <= from {
-        return OMITTED == slot_of(plan, right);
-    }
-    let to = right as usize;
-    if plan.len() <= to {
-        return plan[from] == OMITTED;
-    }
-    plan[from] == plan[to]
-}
-
-// Kind 4: two omitted choices stand in no slot, so they pass.
-pub fn slots_differ(plan: &[u8], left: u16, right: u16) -> bool
-    ensures { λ r. ⌜ r ≡ slotsDiffer (now (plan .entry)) left right ⌝ }
-{
-    let place = slot_of(plan, left);
-    if place == OMITTED {
-        return true;
-    }
-    place != slot_of(plan, right)
-}
-
-// Kind 5: the offset is kept 32,768 higher, so both sides are compared that much higher and need no sign.
-pub fn keeps_offset(plan: &[u8], left: u16, right: u16, extra: u16) -> bool
-    ensures { λ r. ⌜ r ≡ offsetKept (now (plan .entry)) left right extra ⌝ }
-{
-    let from = slot_of(plan, left);
-    let to = slot_of(plan, right);
-    if from == OMITTED {
-        return to == OMITTED;
-    }
-    if to == OMITTED {
-        return false;
-    }
-    to as u32 + 32_768 == from as u32 + extra as u32
-}
 
 // How many choices stand in a slot, as the pass over the plan counted; none past the 24 slots.
 fn size_of(sizes: &[u32; 24], slot: u16) -> u32

@@ -7,46 +7,14 @@ use case_parts::words;
 use case_parts::words_from;
 use case_parts::words_to;
 use cases::BLANK;
-use critical_set_analysis::analysis::Analysis;
 use scheduling_solver::search::search;
 use search_input::answer::Searched;
 use search_input::counts::SearchCounts;
 use search_input::settings::Settings;
+use search_records::Lengths;
+use search_records::Places;
 ghost use mathlib.Core.Path.{_≡_};
 ghost use lib.ListN.{length};
-
-// The lengths of the slices that a case lends beside its rows and its map.
-pub struct Lengths {
-    pub mins: usize,
-    pub maxs: usize,
-    pub optional: usize,
-    pub levels: usize,
-    pub preferences: usize,
-    pub orders: usize,
-    pub draws: usize,
-    pub plan: usize,
-}
-
-// Where these slices start, and the answer.
-pub struct Places {
-    pub mins: usize,
-    pub maxs: usize,
-    pub optional: usize,
-    pub levels: usize,
-    pub preferences: usize,
-    pub orders: usize,
-    pub draws: usize,
-    pub answer: usize,
-}
-
-// The analysis of a code.
-pub fn analysis_of(code: u8) -> Analysis {
-    match code {
-        0 => Analysis::Off,
-        1 => Analysis::On,
-        _ => Analysis::Simplified,
-    }
-}
 
 // Where the maximums, the levels and the preferences stand in the pool of columns, behind the minimums.
 const MAXS_AT: usize = 66;

@@ -16,7 +16,7 @@ use Rattle.lists.proofs.SumBelow.{sum-ext, sum-zeros}
 use Rattle.lists.proofs.Flat.{length-list, getD-list, list-ext}
 use Rattle.lists.proofs.Lists.{getD-any}
 use Rattle.scheduling.specs.Plan.{slotOf, omitted, standsIn, countIn, sumUpTo, sumIn}
-use Rattle.scheduling.proofs.PlanLaws.{stands-by, stands-omitted}
+use Rattle.plan_rows.proofs.PlanLaws.{stands-by, stands-omitted}
 use Rattle.scheduling.proofs.SumLaws.{sum-fits}
 
 -- two sums that differ at one place only

@@ -1,11 +1,16 @@
 -- The join: a law for each way through it.
 use mathlib.Core.Path.{_≡_}
 use mathlib.Core.Bool.{true, false, and-false}
-use Prim.Native.Nat.{ℕ, _≤_, _<_}
+use Prim.Native.Nat.{ℕ, _+_, _≤_, _<_, min}
+use native.Mathlib.Omega.{arith}
 use borrow.Author.Tests.{lt-ltb, le-ltb, eq-eqb, ne-eqb}
 use Rattle.union_find.specs.declared.UnionFind.{UnionFind}
 use Rattle.constraint.specs.Told.{done}
 use Rattle.union_find.specs.State.{heightOf, taken, rootOf, joinedTells, refusedJoin, hung, linked, joinOf}
+
+-- a byte holds a height of at most 64 and 1 more
+pub byte-holds : (height : ℕ) → height ≤ 64 → min (height + 1) 255 ≡ height + 1
+byte-holds height h = omega arith
 
 module _ (uf : UnionFind) (a b : ℕ) where
   -- one root

@@ -1,9 +1,11 @@
 // Union-find over the elements 0..C-1 (module 1): a record of parents and heights, by value in and by value out.
 use constraint::refusal::Refusal;
+use heights::is_higher;
+use heights::raised;
 use pools::clear_bytes;
 use pools::wide;
 ghost use mathlib.Core.Path.{_≡_};
-ghost use Prim.Native.Nat.{ℕ, _+_, _-_, _≤_, _<_, max};
+ghost use Prim.Native.Nat.{ℕ, _+_, _-_, _≤_, _<_};
 ghost use lib.ListN.{length, getD};
 ghost use lib.Seq.{sets};
 ghost use mathlib.Core.List.{[]};
@@ -118,7 +120,7 @@ impl UnionFind {
                 state: self,
             };
         }
-        if self.heights[right] < self.heights[left] {
+        if is_higher(self.heights[left], self.heights[right]) {
             return Joined {
                 found: Found::Root(left),
                 state: self.hang(right, left),
@@ -136,18 +138,11 @@ impl UnionFind {
         ensures { λ r. ⌜ r ≡ hung self lower higher ⌝ }
     {
         let mut state = self;
-        let height = larger(self.heights[higher], self.heights[lower] + 1);
+        let height = raised(self.heights[higher], self.heights[lower]);
         state.parents[lower] = higher as u8;
         state.heights[higher] = height;
         state
     }
-}
-
-// The larger of two heights.
-fn larger(a: u8, b: u8) -> u8
-    ensures { λ r. ⌜ r ≡ max a b ⌝ }
-{
-    if a < b { b } else { a }
 }
 
 // The record is taken: C is in its range, and each of the first C entries is sound.

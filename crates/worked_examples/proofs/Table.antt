@@ -15,7 +15,7 @@ use Rattle.lists.specs.Keep.{keep, anyOf, sumOver}
 use Rattle.lists.specs.Pool.{pad, window}
 use Rattle.lists.specs.Sorted.{inserted, insertedAll, uniqueSorted}
 use Rattle.constraint.specs.Check.{rowKeeps, rowsJudged, countsInRange}
-use Rattle.constraint.specs.Kind.{columnsOf, kinds}
+use Rattle.kind_table.specs.Kinds.{columnsOf, kinds}
 use Rattle.constraint.specs.Op.{extraOf, ltOp, leqOp}
 use Rattle.constraint.specs.Row.{rowOf, rowNumber, plainRow}
 use Rattle.constraint.specs.Told.{Told, done, refused}

@@ -1,7 +1,7 @@
 -- Which names stand in which column, on every line of the table that some call takes.
 use mathlib.Core.Bool.{Bool, true, false}
-use Rattle.constraint.specs.declared.kind.Name.{Name}
-use Rattle.constraint.specs.declared.kind.Name.the-variants.{None, Choice, Slot, Chooser, Limit, Offset, Op}
+use Rattle.kind_table.specs.declared.Name.{Name}
+use Rattle.kind_table.specs.declared.Name.the-variants.{None, Choice, Slot, Chooser, Limit, Offset, Op}
 
 -- on the left: a choice, a slot or a chooser
 abbrev pub onLeft : Name → Bool

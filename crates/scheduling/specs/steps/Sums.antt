@@ -5,7 +5,7 @@ use mathlib.Core.List.{List}
 use Prim.Native.Nat.{ℕ, _≤_}
 use lib.Dec.{leb}
 use lib.ListN.{length, getD}
-use Rattle.scheduling.specs.Plan.{countIn, sumIn}
+use Rattle.plan_rows.specs.Plan.{countIn, sumIn}
 use Rattle.scheduling.specs.Feasible.{placesAllowed}
 
 -- at most 64 choices and 24 slots, and an entry for each choice

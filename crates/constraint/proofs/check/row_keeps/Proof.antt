@@ -1,6 +1,6 @@
 -- Each arm reads the line of the code that it matched, which is the row's kind.
 use mathlib.Core.Path.{_≡_, sym, _∙_, ap}
-use Rattle.constraint.specs.Kind.{columnsOf}
+use Rattle.kind_table.specs.Kinds.{columnsOf}
 use borrow.Author.Needs.{needs}
 use Rattle.constraint.proofs.check.row_keeps.Statement.{statement}
 use Rattle.constraint.proofs.check.row_keeps.Tie as tie

@@ -2,10 +2,11 @@
 use mathlib.Core.Path.{_≡_, sym, _∙_}
 use Prim.Native.Nat.{_≤_, _-_}
 use native.Mathlib.Omega.{arith}
+use borrow.Author.Tests.{not-true, not-false}
 use lib.ListN.{length}
 use Rattle.critical_set_analysis.specs.Calls.{setsIn}
 use Rattle.critical_set_analysis.proofs.PoolSteps.{sets-within, sets-past, sets-at}
-use Rattle.critical_set_analysis.proofs.BoundSteps.{LowersFrom, lowers-start, lowers-past, lowers-small, lowers-large, lowers-done, above, below, small, large}
+use Rattle.critical_set_analysis.proofs.BoundSteps.{LowersFrom, lowers-start, lowers-past, lowers-small, lowers-large, lowers-done, above-told, small, large}
 use borrow.Author.Needs.{needs}
 use Rattle.critical_set_analysis.proofs.bound.lowers_bound.Statement.{statement}
 use Rattle.critical_set_analysis.proofs.bound.lowers_bound.Tie as tie
@@ -19,11 +20,14 @@ abbrev μ-loop : tie.MeasureT-loop
 loop-holds : tie.Need-loop-holds Inv-loop μ-loop
 loop-holds c = (search needs, lowers-start _ _ _)
 
-mul-if1 : tie.Need-mul-if1 Inv-loop μ-loop
-mul-if1 c = search needs
+mul-is-at-or-above : tie.Need-mul-is-at-or-above Inv-loop μ-loop
+mul-is-at-or-above c = search needs
 
-shared-slice-read-if1 : tie.Need-shared-slice-read-if1 Inv-loop μ-loop
-shared-slice-read-if1 c = search needs
+shared-slice-read-is-at-or-above : tie.Need-shared-slice-read-is-at-or-above Inv-loop μ-loop
+shared-slice-read-is-at-or-above c = search needs
+
+is-at-or-above-requires : tie.Need-is-at-or-above-requires Inv-loop μ-loop
+is-at-or-above-requires c κs = tt
 
 add-i : tie.Need-add-i Inv-loop μ-loop
 add-i c = search needs
@@ -33,7 +37,7 @@ loop-less c = search needs
 
 loop-again : tie.Need-loop-again Inv-loop μ-loop
 loop-again c =
-    (search needs, lowers-past _ _ _ _ _ _ (sets-within _ _ _ _ (c .before .before .loop-test .taken)) (sets-at _ _ _ _ (c .before .before .loop-test .taken)) (c .before .before .before .loop .inv .1) (below _ _ _ (c .if1 .taken)))
+    (search needs, lowers-past _ _ _ _ _ _ (sets-within _ _ _ _ (c .before .before .before .loop-test .taken)) (sets-at _ _ _ _ (c .before .before .before .loop-test .taken)) (c .before .before .before .before .loop .inv .1) (above-told _ _ _ (sym (c .before .is-at-or-above .ensures) ∙ not-true _ (c .if1 .taken))))
 
 mul-size : tie.Need-mul-size Inv-loop μ-loop
 mul-size c = search needs
@@ -46,7 +50,7 @@ size-requires c κs = search needs
 
 returns : tie.Need-returns Inv-loop μ-loop
 returns c =
-    lowers-small _ _ _ _ _ _ (sets-within _ _ _ _ (c .before .before .before .before .before .loop-test .taken)) (sets-at _ _ _ _ (c .before .before .before .before .before .loop-test .taken)) (c .before .before .before .before .before .before .loop .inv .1) (above _ _ _ (c .before .before .before .if1 .left)) (small _ _ _ _ (c .before .size .ensures) (c .if2 .taken))
+    lowers-small _ _ _ _ _ _ (sets-within _ _ _ _ (c .before .before .before .before .before .before .loop-test .taken)) (sets-at _ _ _ _ (c .before .before .before .before .before .before .loop-test .taken)) (c .before .before .before .before .before .before .before .loop .inv .1) (above-told _ _ _ (sym (c .before .before .before .before .is-at-or-above .ensures) ∙ not-false _ (c .before .before .before .if1 .left))) (small _ _ _ _ (c .before .size .ensures) (c .if2 .taken))
 
 add-i-2 : tie.Need-add-i-2 Inv-loop μ-loop
 add-i-2 c = search needs
@@ -56,7 +60,7 @@ loop-less-2 c = search needs
 
 loop-again-2 : tie.Need-loop-again-2 Inv-loop μ-loop
 loop-again-2 c =
-    (search needs, lowers-large _ _ _ _ _ _ (sets-within _ _ _ _ (c .before .before .before .before .before .loop-test .taken)) (sets-at _ _ _ _ (c .before .before .before .before .before .loop-test .taken)) (c .before .before .before .before .before .before .loop .inv .1) (above _ _ _ (c .before .before .before .if1 .left)) (large _ _ _ _ (c .before .size .ensures) (c .if2 .left)))
+    (search needs, lowers-large _ _ _ _ _ _ (sets-within _ _ _ _ (c .before .before .before .before .before .before .loop-test .taken)) (sets-at _ _ _ _ (c .before .before .before .before .before .before .loop-test .taken)) (c .before .before .before .before .before .before .before .loop .inv .1) (above-told _ _ _ (sym (c .before .before .before .before .is-at-or-above .ensures) ∙ not-false _ (c .before .before .before .if1 .left))) (large _ _ _ _ (c .before .size .ensures) (c .if2 .left)))
 
 returns-2 : tie.Need-returns-2 Inv-loop μ-loop
 returns-2 c = lowers-done _ _ _ _ _ (sets-past _ _ _ _ (c .loop-test .left)) (c .before .loop .inv .1)
@@ -68,8 +72,9 @@ lowers-bound-spec =
     Inv-loop
     μ-loop
     loop-holds
-    mul-if1
-    shared-slice-read-if1
+    mul-is-at-or-above
+    shared-slice-read-is-at-or-above
+    is-at-or-above-requires
     add-i
     loop-less
     loop-again

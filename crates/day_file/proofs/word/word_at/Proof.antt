@@ -1,45 +1,31 @@
--- Two bytes, each under 256, make a number of sixteen bits.
-use native.Mathlib.Omega.{arith}
+-- The two bytes from the place on, as `word_of` puts them together.
 use Rattle.day_file.specs.File.{wordAt}
 use borrow.Author.Needs.{needs}
 use Rattle.day_file.proofs.word.word_at.Statement.{statement}
 use Rattle.day_file.proofs.word.word_at.Tie as tie
 
-shared-slice-read-wide : tie.Need-shared-slice-read-wide
-shared-slice-read-wide c = search needs
+shared-slice-read-word-of : tie.Need-shared-slice-read-word-of
+shared-slice-read-word-of c = search needs
 
-wide-requires : tie.Need-wide-requires
-wide-requires c κs = search needs
+add-word-of : tie.Need-add-word-of
+add-word-of c = search needs
 
-add-wide : tie.Need-add-wide
-add-wide c = search needs
+shared-slice-read-word-of-2 : tie.Need-shared-slice-read-word-of-2
+shared-slice-read-word-of-2 c = search needs
 
-shared-slice-read-wide-2 : tie.Need-shared-slice-read-wide-2
-shared-slice-read-wide-2 c = search needs
-
-wide-requires-2 : tie.Need-wide-requires-2
-wide-requires-2 c κs = search needs
-
-mul-result : tie.Need-mul-result
-mul-result c = search needs
-
-add-result : tie.Need-add-result
-add-result c = search needs
+word-of-requires : tie.Need-word-of-requires
+word-of-requires c κs = tt
 
 returns : tie.Need-returns
 unfolding wordAt
-returns c =
-    omega arith
+returns c = c .word-of .ensures
 
 pub word-at-spec : {M : Type 1} → statement M
 word-at-spec =
     tie.close
     (tie.spec
-    shared-slice-read-wide
-    wide-requires
-    add-wide
-    shared-slice-read-wide-2
-    wide-requires-2
-    mul-result
-    add-result
+    shared-slice-read-word-of
+    add-word-of
+    shared-slice-read-word-of-2
+    word-of-requires
     returns)

@@ -4,7 +4,8 @@ use Prim.Native.Nat.{_≤_, _-_}
 use native.Mathlib.Omega.{arith}
 use lib.ListN.{length}
 use borrow.Author.Tests.{not-true, not-false}
-use Rattle.scheduling.proofs.SumLaws.{Adding, adding-start, adding-skip, adding-put, adding-refused, adding-done, omission-is, room}
+use Rattle.plan_rows.proofs.PlanLaws.{omission-is}
+use Rattle.scheduling.proofs.SumLaws.{Adding, adding-start, adding-skip, adding-put, adding-refused, adding-done, room}
 use borrow.Author.Needs.{needs}
 use Rattle.scheduling.proofs.feasible.add_up.Statement.{statement}
 use Rattle.scheduling.proofs.feasible.add_up.Tie as tie

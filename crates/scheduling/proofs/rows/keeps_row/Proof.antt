@@ -2,7 +2,7 @@
 use mathlib.Core.Path.{_≡_, sym, _∙_, ap}
 use mathlib.Core.Bool.{not}
 use Prim.Native.Nat.{ℕ}
-use Rattle.scheduling.proofs.RowLaws.{keeps-in-slot, keeps-not-in-slot, keeps-same-slot, keeps-not-same-slot, keeps-offset-row, keeps-limited-size, keeps-no-other}
+use Rattle.plan_rows.proofs.RowLaws.{keeps-in-slot, keeps-not-in-slot, keeps-same-slot, keeps-not-same-slot, keeps-offset-row, keeps-limited-size, keeps-no-other}
 use borrow.Author.Needs.{needs}
 use Rattle.scheduling.proofs.rows.keeps_row.Statement.{statement}
 use Rattle.scheduling.proofs.rows.keeps_row.Tie as tie

@@ -3,7 +3,7 @@ use mathlib.Core.Path.{_≡_, sym, _∙_}
 use Prim.Native.Nat.{_≤_}
 use lib.ListN.{length}
 use borrow.Author.Tests.{not-true, not-false}
-use Rattle.scheduling.proofs.RowLaws.{RowsLeft, rows-start, rows-next, rows-broken, rows-kept}
+use Rattle.plan_rows.proofs.RowLaws.{RowsLeft, rows-start, rows-next, rows-broken, rows-kept}
 use borrow.Author.Needs.{needs}
 use Rattle.scheduling.proofs.rows.keeps_rows.Statement.{statement}
 use Rattle.scheduling.proofs.rows.keeps_rows.Tie as tie

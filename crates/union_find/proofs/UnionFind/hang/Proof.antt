@@ -1,20 +1,18 @@
 -- What is stored is what `hung` says.
 use Rattle.union_find.specs.State.{hung}
+use Rattle.union_find.proofs.Linking.{byte-holds}
 use borrow.Author.Needs.{needs}
 use Rattle.union_find.proofs.UnionFind.hang.Statement.{statement}
 use Rattle.union_find.proofs.UnionFind.hang.Tie as tie
 
-element-copy-out-larger : tie.Need-element-copy-out-larger
-element-copy-out-larger c = search needs
+element-copy-out-raised : tie.Need-element-copy-out-raised
+element-copy-out-raised c = search needs
 
-element-copy-out-larger-2 : tie.Need-element-copy-out-larger-2
-element-copy-out-larger-2 c = search needs
+element-copy-out-raised-2 : tie.Need-element-copy-out-raised-2
+element-copy-out-raised-2 c = search needs
 
-add-larger : tie.Need-add-larger
-add-larger c = search needs
-
-larger-requires : tie.Need-larger-requires
-larger-requires c κs = search needs
+raised-requires : tie.Need-raised-requires
+raised-requires c κs = search needs
 
 cast-state : tie.Need-cast-state
 cast-state c = search needs
@@ -27,16 +25,15 @@ element-write-state-2 c = search needs
 
 returns : tie.Need-returns
 unfolding hung
-returns c = rw (c .larger .ensures)
+returns c = rw (c .raised .ensures, byte-holds _ (c .before .before .before .pre .left-height))
 
 pub hang-spec : {M : Type 1} → statement M
 hang-spec =
     tie.close
     (tie.spec
-    element-copy-out-larger
-    element-copy-out-larger-2
-    add-larger
-    larger-requires
+    element-copy-out-raised
+    element-copy-out-raised-2
+    raised-requires
     cast-state
     element-write-state
     element-write-state-2
