@@ -1,47 +1,93 @@
--- A thrifty test visits no more starts than request 03 has nodes: where those are within a budget, turns never run out.
-use mathlib.Core.Path.{_≡_, refl, sym, ap, _∙_}
+-- Safe eyes visit no more starts than request 03 has nodes: where those are within a budget, turns never run out.
+use mathlib.Core.Path.{_≡_, refl, sym, ap}
 use mathlib.Core.Bool.{Bool, true, false, cond}
-use mathlib.Core.List.{List, [], _∷_, _++_}
-use Prim.Native.Nat.{ℕ, zero, suc, _≤_}
+use mathlib.Core.List.{List, [], _∷_, _++_, map, flatMap}
+use Prim.Native.Nat.{ℕ, zero, suc, _+_, _≤_}
 use native.Mathlib.Omega.{arith}
 use lib.ListN.{length}
 use Rattle.lists.specs.Keep.{keep, sumOver}
-use Rattle.lists.proofs.Keep.{sumOver-le}
+use Rattle.lists.proofs.Keep.{length-flatMap, sumOver-le}
 use Rattle.lists.proofs.SumBelow.{sum-ext}
 use Rattle.scheduling.specs.Day.{Day}
+use Rattle.scheduling.specs.Feasible.{feasible}
 use Rattle.listing_nodes.specs.Placements.{places, placements, isNode, nodes}
-use Rattle.listing_nodes.proofs.StartLaws.{empty-node}
+use Rattle.listing_nodes.specs.steps.Walk.{ifFeasible}
 use Rattle.listing_nodes.proofs.WholeLaws.{nodesOf, nodesUpTo, nodes-last, nodes-more, map-same}
-use Rattle.alive_starts.specs.Alive.{Thrifty, visited}
+use Rattle.alive_starts.specs.Alive.{Event, visit, plan, plansIn, visitsIn, Eyes, events, Safe}
+use Rattle.alive_starts.proofs.EventLaws.{plans-flatMap, visits-flatMap, visits-told}
+use Rattle.alive_starts.proofs.AnyEyes.{next-length}
 
-module _ (day : Day) (alive : List ℕ → Bool) (thrifty : Thrifty day alive) where
-  -- from any node on
-  pub visits-within : (n : ℕ) (start : List ℕ) → isNode day start ≡ true → visited day alive n start ≤ nodesUpTo day start n
-  unfolding visited
-  visits-within zero start t = rw (nodes-last day start t) (omega arith)
-  visits-within (suc n) start t =
-      rw (nodes-more day start n t)
-      (omega (
-        arith,
-        sumOver-le
-            (λ place. cond (alive (start ++ (place ∷ []))) (visited day alive n (start ++ (place ∷ []))) 0)
-            (λ place. nodesUpTo day (start ++ (place ∷ [])) n)
-            (places (day .counts .slots))
-            (λ place. go place (alive (start ++ (place ∷ []))) refl λ a. visits-within n (start ++ (place ∷ [])) (thrifty (start ++ (place ∷ [])) a)),
-      ))
+module _ (day : Day) {X : Type 0} (eyes : Eyes X) where
+  -- what a place's walk adds
+  abbrev there : ℕ → List ℕ → X → ℕ → List Event
+  there n start x place = cond (eyes .opens start x place) (events day eyes n (start ++ (place ∷ [])) (eyes .next start x place)) []
+
+  module _ {Holds : List ℕ → X → Type 0} (safe : Safe day eyes Holds) where
+    -- from any start on
+    pub visits-within : (n : ℕ) (start : List ℕ) (x : X) → Holds start x → length start + n ≡ day .counts .choices
+        → visitsIn (events day eyes n start x) ≤ nodesUpTo day start n
+    unfolding visitsIn events
+    visits-within zero start x h e = rw (nodes-last day start (safe .node start x h)) (go (eyes .worth start x))
+      where
+        go : (b : Bool) → suc (visitsIn (cond b (map plan (ifFeasible day start)) [])) ≤ 1
+        go true = rw (visits-told (ifFeasible day start)) (omega arith)
+        go false = omega arith
+    visits-within (suc n) start x h e =
+        rw (nodes-more day start n (safe .node start x h))
+        (go (eyes .worth start x) λ place o.
+        visits-within n (start ++ (place ∷ [])) (eyes .next start x place) (safe .next start place x h (omega arith) o) (next-length start place n (day .counts .choices) e))
+      where
+        at : (place : ℕ) (b : Bool) → eyes .opens start x place ≡ b
+            → (eyes .opens start x place ≡ true → visitsIn (events day eyes n (start ++ (place ∷ [])) (eyes .next start x place)) ≤ nodesUpTo day (start ++ (place ∷ [])) n)
+            → visitsIn (cond b (events day eyes n (start ++ (place ∷ [])) (eyes .next start x place)) []) ≤ nodesUpTo day (start ++ (place ∷ [])) n
+        at place true o ih = ih o
+        at place false o ih = omega arith
+
+        go : (b : Bool)
+            → ((place : ℕ) → eyes .opens start x place ≡ true → visitsIn (events day eyes n (start ++ (place ∷ [])) (eyes .next start x place)) ≤ nodesUpTo day (start ++ (place ∷ [])) n)
+            → suc (visitsIn (cond b (flatMap (there n start x) (places (day .counts .slots))) [])) ≤ suc (sumOver (λ place. nodesUpTo day (start ++ (place ∷ [])) n) (places (day .counts .slots)))
+        go true ih =
+            rw (visits-flatMap (there n start x) (places (day .counts .slots)))
+            (omega (
+              arith,
+              sumOver-le (λ place. visitsIn (there n start x place)) (λ place. nodesUpTo day (start ++ (place ∷ [])) n) (places (day .counts .slots)) (λ place. at place (eyes .opens start x place) refl (ih place)),
+            ))
+        go false ih = omega arith
+
+    -- from the empty start on
+    pub visits-few : (x : X) → Holds [] x → visitsIn (events day eyes (day .counts .choices) [] x) ≤ nodes day
+    unfolding nodes nodesUpTo nodesOf
+    visits-few x h =
+        rw
+        (sym
+        (sum-ext (suc (day .counts .choices)) (nodesOf day []) (λ n. length (keep (isNode day) (placements (day .counts .slots) n))) λ n l.
+        ap (λ (l : List (List ℕ)). length (keep (isNode day) l)) (map-same (placements (day .counts .slots) n))))
+        (visits-within (day .counts .choices) [] x h (omega arith))
+
+  -- each plan has its own visit
+  pub plans-cost-turns : (n : ℕ) (start : List ℕ) (x : X) → length (plansIn (events day eyes n start x)) ≤ visitsIn (events day eyes n start x)
+  unfolding plansIn visitsIn events ifFeasible
+  plans-cost-turns zero start x = go (eyes .worth start x) (feasible day start)
     where
-      go : (place : ℕ) (b : Bool) → alive (start ++ (place ∷ [])) ≡ b
-          → (alive (start ++ (place ∷ [])) ≡ true → visited day alive n (start ++ (place ∷ [])) ≤ nodesUpTo day (start ++ (place ∷ [])) n)
-          → cond b (visited day alive n (start ++ (place ∷ []))) 0 ≤ nodesUpTo day (start ++ (place ∷ [])) n
-      go place true a ih = ih a
-      go place false a ih = omega arith
+      go : (b p : Bool) → length (plansIn (cond b (map plan (cond p (start ∷ []) [])) [])) ≤ suc (visitsIn (cond b (map plan (cond p (start ∷ []) [])) []))
+      go true true = omega arith
+      go true false = omega arith
+      go false p = omega arith
+  plans-cost-turns (suc n) start x = go (eyes .worth start x) λ place. plans-cost-turns n (start ++ (place ∷ [])) (eyes .next start x place)
+    where
+      at : (place : ℕ) (b : Bool)
+          → length (plansIn (events day eyes n (start ++ (place ∷ [])) (eyes .next start x place))) ≤ visitsIn (events day eyes n (start ++ (place ∷ [])) (eyes .next start x place))
+          → length (plansIn (cond b (events day eyes n (start ++ (place ∷ [])) (eyes .next start x place)) [])) ≤ visitsIn (cond b (events day eyes n (start ++ (place ∷ [])) (eyes .next start x place)) [])
+      at place true ih = ih
+      at place false ih = omega arith
 
-  -- from the empty start on
-  pub visits-few : visited day alive (day .counts .choices) [] ≤ nodes day
-  unfolding nodes nodesUpTo nodesOf
-  visits-few =
-      rw
-      (sym
-      (sum-ext (suc (day .counts .choices)) (nodesOf day []) (λ n. length (keep (isNode day) (placements (day .counts .slots) n))) λ n h.
-      ap (λ (l : List (List ℕ)). length (keep (isNode day) l)) (map-same (placements (day .counts .slots) n))))
-      (visits-within (day .counts .choices) [] (empty-node day))
+      go : (b : Bool)
+          → ((place : ℕ) → length (plansIn (events day eyes n (start ++ (place ∷ [])) (eyes .next start x place))) ≤ visitsIn (events day eyes n (start ++ (place ∷ [])) (eyes .next start x place)))
+          → length (plansIn (cond b (flatMap (there n start x) (places (day .counts .slots))) [])) ≤ suc (visitsIn (cond b (flatMap (there n start x) (places (day .counts .slots))) []))
+      go true ih =
+          rw (plans-flatMap (there n start x) (places (day .counts .slots)), visits-flatMap (there n start x) (places (day .counts .slots)), length-flatMap (λ place. plansIn (there n start x place)) (places (day .counts .slots)))
+          (omega (
+            arith,
+            sumOver-le (λ place. length (plansIn (there n start x place))) (λ place. visitsIn (there n start x place)) (places (day .counts .slots)) (λ place. at place (eyes .opens start x place) (ih place)),
+          ))
+      go false ih = omega arith

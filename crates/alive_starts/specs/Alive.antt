@@ -1,30 +1,53 @@
--- The list of a day's plans, walked start by start with any test that says which starts are worth going on from.
+-- The starts of a day's plans, walked in dictionary order by any eyes: what the walk carries along tells which starts are worth going on from.
 use mathlib.Core.Path.{_≡_}
-use mathlib.Core.Bool.{Bool, true, false, cond}
-use mathlib.Core.List.{List, [], _∷_, _++_, flatMap}
-use Prim.Native.Nat.{ℕ, zero, suc}
-use Rattle.lists.specs.Keep.{sumOver}
+use mathlib.Core.Bool.{Bool, true, cond}
+use mathlib.Core.List.{List, [], _∷_, _++_, map, flatMap}
+use Prim.Native.Nat.{ℕ, zero, suc, _<_}
+use lib.ListN.{length}
 use Rattle.scheduling.specs.Day.{Day}
 use Rattle.scheduling.specs.Feasible.{feasible}
 use Rattle.listing_nodes.specs.Placements.{places, isNode}
+use Rattle.listing_nodes.specs.steps.Walk.{ifFeasible}
 
--- a test of starts is safe if no feasible plan begins with a start that it gives up
-abbrev pub Safe : Day → (List ℕ → Bool) → Type 0
-Safe day alive = (start rest : List ℕ) → alive start ≡ false → feasible day (start ++ rest) ≡ true → ⊥
+-- what happens on the way: a start is visited, or a plan is met
+pub data Event : Type 0 where
+  visit : Event
+  plan : List ℕ → Event
 
--- and thrifty if it goes on from no start that isn't a node of request 03
-abbrev pub Thrifty : Day → (List ℕ → Bool) → Type 0
-Thrifty day alive = (start : List ℕ) → alive start ≡ true → isNode day start ≡ true
+-- the plans met among these events, in order
+unfoldable pub plansIn : List Event → List (List ℕ)
+plansIn [] = []
+plansIn (visit ∷ es) = plansIn es
+plansIn (plan p ∷ es) = p ∷ plansIn es
 
-module _ (day : Day) (alive : List ℕ → Bool) where
-  -- the plans met from a start on with so many choices left: 'each place goes on to the next choice' where the test lets it, and the plan check judges every full start
-  unfoldable pub met : ℕ → List ℕ → List (List ℕ)
-  met zero start = cond (feasible day start) (start ∷ []) []
-  met (suc n) start =
-      flatMap (λ place. cond (alive (start ++ (place ∷ []))) (met n (start ++ (place ∷ []))) []) (places (day .counts .slots))
+-- the starts visited among them
+unfoldable pub visitsIn : List Event → ℕ
+visitsIn [] = 0
+visitsIn (visit ∷ es) = suc (visitsIn es)
+visitsIn (plan p ∷ es) = visitsIn es
 
-  -- the starts visited on the way, this one among them
-  unfoldable pub visited : ℕ → List ℕ → ℕ
-  visited zero start = 1
-  visited (suc n) start =
-      suc (sumOver (λ place. cond (alive (start ++ (place ∷ []))) (visited n (start ++ (place ∷ []))) 0) (places (day .counts .slots)))
+-- the eyes of a walk that carries an X: whether a start is worth going on from, whether its next choice may take a place, and what is carried there
+pub record Eyes (X : Type 0) : Type 0 where
+  pub worth : List ℕ → X → Bool
+  pub opens : List ℕ → X → ℕ → Bool
+  pub next : List ℕ → X → ℕ → X
+
+module _ (day : Day) {X : Type 0} (eyes : Eyes X) where
+  -- the walk from a start on with so many choices left; the plan check judges every full start
+  unfoldable pub events : ℕ → List ℕ → X → List Event
+  events zero start x = visit ∷ cond (eyes .worth start x) (map plan (ifFeasible day start)) []
+  events (suc n) start x =
+      visit
+      ∷ cond (eyes .worth start x)
+      (flatMap (λ place. cond (eyes .opens start x place) (events n (start ++ (place ∷ [])) (eyes .next start x place)) []) (places (day .counts .slots)))
+      []
+
+  -- eyes are safe if something that holds of what is carried keeps every feasible plan in sight, and every start that is visited is a node of request 03
+  pub record Safe (Holds : List ℕ → X → Type 0) : Type 0 where
+    pub node : (start : List ℕ) (x : X) → Holds start x → isNode day start ≡ true
+    pub worth : (start rest : List ℕ) (x : X) → Holds start x → length (start ++ rest) ≡ day .counts .choices → feasible day (start ++ rest) ≡ true
+        → eyes .worth start x ≡ true
+    pub opens : (start rest : List ℕ) (place : ℕ) (x : X) → Holds start x → length ((start ++ (place ∷ [])) ++ rest) ≡ day .counts .choices
+        → feasible day ((start ++ (place ∷ [])) ++ rest) ≡ true → eyes .opens start x place ≡ true
+    pub next : (start : List ℕ) (place : ℕ) (x : X) → Holds start x → length start < day .counts .choices → eyes .opens start x place ≡ true
+        → Holds (start ++ (place ∷ [])) (eyes .next start x place)

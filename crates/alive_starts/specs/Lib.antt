@@ -1,1 +1,3 @@
 pub mod Alive
+pub mod Run
+pub mod Page

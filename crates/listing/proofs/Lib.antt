@@ -2,4 +2,3 @@
 pub mod Settled
 pub mod Examples
 pub mod CallLaws
-pub mod Falls

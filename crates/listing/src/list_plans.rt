@@ -7,6 +7,7 @@ use listing_nodes::judge::judge;
 use listing_nodes::nodes::Counting;
 use listing_nodes::nodes::count_nodes;
 use listing_nodes::nodes::no_sums;
+use listing_starts::full::no_plan;
 use listing_starts::full::numbers_asked;
 use listing_starts::page::written_of;
 ghost use mathlib.Core.Path.{_≡_};
@@ -29,13 +30,6 @@ pub enum Listed {
     },
     Turns,
     Refused(Refusal),
-}
-
-// 64 places, of which a day uses the first C.
-fn no_plan() -> [u8; 64]
-    ensures { λ r. ⌜ 64 ≡ length r ⌝ }
-{
-    [0u8; 64]
 }
 
 // The second run from the empty start: the page is written, the answer is the total.

@@ -5,7 +5,7 @@ use listing_starts::full::SLOTS;
 use listing_starts::full::list_plan;
 use listing_starts::places::next_open;
 use listing_starts::places::place_at;
-use scheduling::plan::OMITTED;
+use plan_rows::plan::OMITTED;
 ghost use mathlib.Core.Path.{_≡_};
 ghost use Prim.Native.Nat.{_+_, _-_, _≤_, _<_};
 ghost use lib.ListN.{length, getD, set, take};

@@ -11,3 +11,4 @@ pub mod StartLaws
 pub mod WholeLaws
 pub mod NodeLaws
 pub mod Settled
+pub mod Falls

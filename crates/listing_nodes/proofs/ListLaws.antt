@@ -82,11 +82,11 @@ module _ (day : Day) (plan sums : List ℕ) (choice : ℕ) where
 -- ---- a choice set at the start's end
 
 module _ (choice : ℕ) (plan : List ℕ) (h : choice < length plan) where
-  start-length : length (take choice plan) ≡ choice
+  pub start-length : length (take choice plan) ≡ choice
   start-length = length-take-le choice plan (omega arith)
 
   module _ (place : ℕ) where
-    next-start : take (choice + 1) (set plan choice place) ≡ take choice plan ++ (place ∷ [])
+    pub next-start : take (choice + 1) (set plan choice place) ≡ take choice plan ++ (place ∷ [])
     next-start = rw (add-one choice) (take-suc-set plan choice place h)
 
     next-plans : (day : Day) (sums : List ℕ)
@@ -95,7 +95,7 @@ module _ (choice : ℕ) (plan : List ℕ) (h : choice < length plan) where
     next-plans day sums = rw (length-set plan choice place, next-start)
 
     -- what stands before it stays
-    start-kept : (plan' : List ℕ) → take (choice + 1) plan' ≡ take (choice + 1) (set plan choice place) → take choice plan' ≡ take choice plan
+    pub start-kept : (plan' : List ℕ) → take (choice + 1) plan' ≡ take (choice + 1) (set plan choice place) → take choice plan' ≡ take choice plan
     start-kept plan' e =
         sym (take-take choice (choice + 1) plan' (omega arith))
         ∙ ap (take choice) e
@@ -103,7 +103,7 @@ module _ (choice : ℕ) (plan : List ℕ) (h : choice < length plan) where
         ∙ take-set-le choice plan choice place (omega arith)
 
 -- the shapes depend on lengths alone
-shaped-kept : {day : Day} {room : ℕ} {plan plan' buffer buffer' : List ℕ} → Shaped day room plan buffer → length plan' ≡ length plan → length buffer' ≡ length buffer
+pub shaped-kept : {day : Day} {room : ℕ} {plan plan' buffer buffer' : List ℕ} → Shaped day room plan buffer → length plan' ≡ length plan → length buffer' ≡ length buffer
     → Shaped day room plan' buffer'
 shaped-kept s p b =
     record {

@@ -16,7 +16,7 @@ use Rattle.lists.proofs.Keep.{in-map, map-in, in-flatMap, flatMap-in, kept-in, 
 use Rattle.scheduling.specs.Day.{Day}
 use Rattle.scheduling.specs.Plan.{slotOf}
 use Rattle.scheduling.specs.Feasible.{omissionAllowed, placeAllowed, placesAllowed, feasible}
-use Rattle.scheduling.proofs.SumLaws.{omission-is}
+use Rattle.plan_rows.proofs.PlanLaws.{omission-is}
 use Rattle.listing_nodes.specs.Placements.{slotsFrom, places, placements, plans}
 use Rattle.listing_nodes.proofs.PageLaws.{Sized, none, more}
 use Rattle.listing_nodes.proofs.StartLaws.{node-facts, feasible-node}

@@ -232,7 +232,7 @@ module _ (slots choosers : ℕ) (mins optional sums : List ℕ) (choice : ℕ) w
       go false h = omega arith
 
   -- it may take it
-  open-fits : (left : ℕ) → (nextOpen slots choosers mins optional sums choice left ≡ 0 → ⊥)
+  pub open-fits : (left : ℕ) → (nextOpen slots choosers mins optional sums choice left ≡ 0 → ⊥)
       → placeFits slots choosers mins optional sums choice (placeOf slots (slots + 1 - nextOpen slots choosers mins optional sums choice left)) ≡ true
   unfolding nextOpen
   open-fits zero n = absurd (n refl)

@@ -19,7 +19,7 @@ use Rattle.scheduling.specs.Plan.{slotOf, omitted, standsIn, sumUpTo, sumIn}
 use Rattle.scheduling.specs.Feasible.{omissionAllowed, placeAllowed, placesAllowed, slotFits, feasible}
 use Rattle.scheduling.specs.Rows.{keepsRows}
 use Rattle.scheduling.specs.steps.Sums.{Sums}
-use Rattle.scheduling.proofs.SumLaws.{omission-is}
+use Rattle.plan_rows.proofs.PlanLaws.{omission-is}
 use Rattle.listing_nodes.specs.Placements.{isNode}
 use Rattle.listing_nodes.specs.steps.Walk.{placeFits, sumsWith, goesTo, sumsTo}
 

@@ -50,7 +50,7 @@ module _ (day : Day) (start sums : List ℕ) (r : Reached day start sums) (place
   step = step-node day start sums (r .few) (node-facts day start (r .node)) (r .held) place
 
   -- the next start is reached
-  reached-next : goesTo day start sums place ≡ true → Reached day (start ++ (place ∷ [])) (sumsTo day start sums place)
+  pub reached-next : goesTo day start sums place ≡ true → Reached day (start ++ (place ∷ [])) (sumsTo day start sums place)
   unfolding sumsTo sumsWith
   reached-next g =
       record {
@@ -187,7 +187,7 @@ map-same [] = refl
 map-same (x ∷ l) = ap (λ k. x ∷ k) (map-same l)
 
 module _ (day : Day) (few : day .counts .slots ≤ 24) where
-  reached-empty : Reached day [] (replicate 24 0)
+  pub reached-empty : Reached day [] (replicate 24 0)
   unfolding Sums sumIn sumUpTo sumBelow
   reached-empty = record { few = few; node = empty-node day; held = λ slot. zeros-at 24 slot; entries = length-replicate {A = ℕ} 24 0 }
 

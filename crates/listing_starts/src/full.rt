@@ -3,7 +3,7 @@ use super::page::put_plan;
 use constraint::check::Counts;
 use scheduling::feasible::is_feasible;
 ghost use mathlib.Core.Path.{_≡_};
-ghost use lib.ListN.{getD};
+ghost use lib.ListN.{length, getD};
 ghost use Rattle.scheduling.specs.Day.{dayOf};
 ghost use Rattle.listing_nodes.specs.steps.Walk.{numbersAsked, countsOf};
 ghost use Rattle.listing_starts.specs.steps.Starts.{totalWith, pageWith};
@@ -21,6 +21,13 @@ const FIRST: usize = 4;
 
 const ROOM: usize = 5;
 
+// 64 places, of which a day uses the first C.
+pub fn no_plan() -> [u8; 64]
+    ensures { λ r. ⌜ 64 ≡ length r ⌝ }
+{
+    [0u8; 64]
+}
+
 // These numbers in one array: a reference to it is one argument at each call.
 pub fn numbers_asked(counts: Counts, first: u64, room: u64) -> [usize; 6]
     ensures { λ r. ⌜ r ≡ numbersAsked counts first room ⌝ }
@@ -36,7 +43,7 @@ pub fn numbers_asked(counts: Counts, first: u64, room: u64) -> [usize; 6]
 }
 
 // The counts among them.
-fn counts_of(asked: &[usize; 6]) -> Counts
+pub fn counts_of(asked: &[usize; 6]) -> Counts
     ensures { λ r. ⌜ r ≡ countsOf (now (asked .entry)) ⌝ }
 {
     Counts {

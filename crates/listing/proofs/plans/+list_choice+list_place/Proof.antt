@@ -2,7 +2,7 @@
 use mathlib.Core.Path.{_∙_}
 use borrow.Author.Needs.{needs}
 use Rattle.listing_nodes.proofs.ListLaws.{full-numbers, listing-full, on-walks, on-none, on-requires, listing-on, within-plan, taken-requires, stands-after, walks-back, fewer, none-left, rest-requires, listing-rest}
-use Rattle.listing.proofs.Falls.{to-place, to-choice, to-next, all-places, next-choice, before-next, last-place, low-sum}
+use Rattle.listing_nodes.proofs.Falls.{to-place, to-choice, to-next, all-places, next-choice, before-next, last-place, low-sum}
 use Rattle.listing_starts.proofs.OpenLaws.{place-told, open-told}
 use Rattle.listing_starts.proofs.FullLaws.{full-added}
 use Prim.Native.Nat.{ℕ, _+_, _-_, _*_, _<_}

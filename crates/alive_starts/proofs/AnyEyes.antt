@@ -1,0 +1,80 @@
+-- Whatever the eyes, if they are safe, the walk meets the plans of request 03, each once and in dictionary order.
+use mathlib.Core.Path.{_≡_, refl, sym, ap, _∙_}
+use mathlib.Core.Bool.{Bool, true, false, cond, false≢true}
+use mathlib.Core.List.{List, [], _∷_, _++_, map, flatMap, append-nil, List·Memᴰ, List·Memᴰ·head, List·Memᴰ·tail}
+use Prim.Native.Nat.{ℕ, zero, suc, _+_}
+use native.Mathlib.Omega.{arith}
+use lib.ListN.{length, length-append}
+use Rattle.lists.specs.Keep.{keep}
+use Rattle.lists.proofs.Keep.{flatMap-ext}
+use Rattle.scheduling.specs.Day.{Day}
+use Rattle.scheduling.specs.Feasible.{feasible}
+use Rattle.listing_nodes.specs.Placements.{places, placements, plans}
+use Rattle.listing_nodes.specs.steps.Walk.{ifFeasible}
+use Rattle.listing_nodes.proofs.Members.{placement-length}
+use Rattle.listing_nodes.proofs.WholeLaws.{after, spread, map-same}
+use Rattle.alive_starts.specs.Alive.{plan, plansIn, Eyes, events, Safe}
+use Rattle.alive_starts.proofs.EventLaws.{plans-flatMap, plans-told}
+
+not-true-false : (b : Bool) → (b ≡ true → ⊥) → b ≡ false
+not-true-false true h = absurd (h refl)
+not-true-false false h = refl
+
+-- nothing is kept of a list whose members all fail
+keep-none : (p : List ℕ → Bool) (f : List ℕ → List ℕ) (l : List (List ℕ)) → ((x : List ℕ) → List·Memᴰ x l → p (f x) ≡ false) → keep p (map f l) ≡ []
+unfolding keep
+keep-none p f [] h = refl
+keep-none p f (x ∷ l) h = rw (h x (List·Memᴰ·head refl), keep-none p f l (λ y m. h y (List·Memᴰ·tail m)))
+
+-- the length of a start and one place more
+pub next-length : (start : List ℕ) (place n size : ℕ) → length start + suc n ≡ size → length (start ++ (place ∷ [])) + n ≡ size
+next-length start place n size e = rw (length-append start (place ∷ [])) (omega arith)
+
+-- no plan goes on from a start if every plan that does shows a test true which is false
+none-after : (day : Day) (n : ℕ) (start : List ℕ) (b : Bool) → b ≡ false → length start + n ≡ day .counts .choices
+    → ((rest : List ℕ) → length (start ++ rest) ≡ day .counts .choices → feasible day (start ++ rest) ≡ true → b ≡ true)
+    → keep (feasible day) (after (day .counts .slots) start n) ≡ []
+none-after day n start b f e h =
+    keep-none (feasible day) (λ rest. start ++ rest) (placements (day .counts .slots) n) λ rest m.
+    not-true-false (feasible day (start ++ rest)) λ t.
+    false≢true (sym f ∙ h rest (length-append start rest ∙ ap (λ (k : ℕ). length start + k) (placement-length (day .counts .slots) n rest m) ∙ e) t)
+
+module _ (day : Day) {X : Type 0} (eyes : Eyes X) {Holds : List ℕ → X → Type 0} (safe : Safe day eyes Holds) where
+  -- from any start on: the plans that begin with it
+  pub plans-met : (n : ℕ) (start : List ℕ) (x : X) → Holds start x → length start + n ≡ day .counts .choices
+      → plansIn (events day eyes n start x) ≡ keep (feasible day) (after (day .counts .slots) start n)
+  unfolding plansIn events keep placements ifFeasible
+  plans-met zero start x h e = go (eyes .worth start x) refl
+    where
+      go : (b : Bool) → eyes .worth start x ≡ b → plansIn (cond b (map plan (ifFeasible day start)) []) ≡ keep (feasible day) (after (day .counts .slots) start 0)
+      go true t = plans-told (ifFeasible day start) ∙ rw (append-nil start)
+      go false f = sym (none-after day 0 start (eyes .worth start x) f e λ rest l t. safe .worth start rest x h l t)
+  plans-met (suc n) start x h e = go (eyes .worth start x) refl λ place o. plans-met n (start ++ (place ∷ [])) (eyes .next start x place) (safe .next start place x h (omega arith) o) (next-length start place n (day .counts .choices) e)
+    where
+      -- the plans that go on with a place
+      there : ℕ → List (List ℕ)
+      there place = keep (feasible day) (after (day .counts .slots) (start ++ (place ∷ [])) n)
+
+      at : (place : ℕ) (b : Bool) → eyes .opens start x place ≡ b
+          → (eyes .opens start x place ≡ true → plansIn (events day eyes n (start ++ (place ∷ [])) (eyes .next start x place)) ≡ there place)
+          → plansIn (cond b (events day eyes n (start ++ (place ∷ [])) (eyes .next start x place)) []) ≡ there place
+      at place true o ih = ih o
+      at place false o ih =
+          sym (none-after day n (start ++ (place ∷ [])) (eyes .opens start x place) o (next-length start place n (day .counts .choices) e) λ rest l t.
+          safe .opens start rest place x h l t)
+
+      go : (b : Bool) → eyes .worth start x ≡ b
+          → ((place : ℕ) → eyes .opens start x place ≡ true → plansIn (events day eyes n (start ++ (place ∷ [])) (eyes .next start x place)) ≡ there place)
+          → plansIn (cond b (flatMap (λ place. cond (eyes .opens start x place) (events day eyes n (start ++ (place ∷ [])) (eyes .next start x place)) []) (places (day .counts .slots))) []) ≡ keep (feasible day) (after (day .counts .slots) start (suc n))
+      go true t ih =
+          plans-flatMap (λ place. cond (eyes .opens start x place) (events day eyes n (start ++ (place ∷ [])) (eyes .next start x place)) []) (places (day .counts .slots))
+          ∙ flatMap-ext (λ place. plansIn (cond (eyes .opens start x place) (events day eyes n (start ++ (place ∷ [])) (eyes .next start x place)) [])) there (places (day .counts .slots)) (λ place. at place (eyes .opens start x place) refl (ih place))
+          ∙ sym (spread (day .counts .slots) (feasible day) start n)
+      go false f ih = sym (none-after day (suc n) start (eyes .worth start x) f e λ rest l t. safe .worth start rest x h l t)
+
+  -- from the empty start on: all of them
+  pub any-eyes : (x : X) → Holds [] x → plansIn (events day eyes (day .counts .choices) [] x) ≡ plans day
+  unfolding plans
+  any-eyes x h =
+      plans-met (day .counts .choices) [] x h (omega arith)
+      ∙ ap (keep (feasible day)) (map-same (placements (day .counts .slots) (day .counts .choices)))
