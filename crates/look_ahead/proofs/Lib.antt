@@ -1,0 +1,3 @@
+-- The laws of the look ahead.
+pub mod StepLaws
+pub mod LookLaws

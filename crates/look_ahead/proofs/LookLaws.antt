@@ -1,0 +1,189 @@
+-- A feasible plan stays within what the look ahead leaves, and its starts are worth going on from.
+use mathlib.Core.Path.{_≡_, refl, sym, ap, _∙_}
+use mathlib.Core.Bool.{Bool, true, false, _&&_, not, cond, false≢true}
+use mathlib.Core.List.{List, [], _∷_}
+use Prim.Native.Nat.{ℕ, zero, suc, _+_, _-_, _≤_, _<_}
+use native.Mathlib.Omega.{arith}
+use borrow.Author.Tests.{eq-eqb, ne-eqb}
+use lib.Dec.{eqb, leb}
+use lib.ListN.{length, getD, set, take, replicate, length-set, length-replicate}
+use lib.Seq.{getD-take}
+use Rattle.lists.specs.Below.{allBelow}
+use Rattle.lists.proofs.Below.{each-all}
+use Rattle.constraint.specs.Row.{rowOf}
+use Rattle.constraint.specs.declared.check.Counts.{Counts}
+use Rattle.constraint.specs.declared.row.Row.{Row}
+use Rattle.scheduling.specs.Day.{Day}
+use Rattle.scheduling.specs.Plan.{slotOf, sumIn}
+use Rattle.scheduling.specs.Feasible.{feasible}
+use Rattle.choice_sets.specs.Sets.{has}
+use Rattle.choice_sets.proofs.SetLaws.{has-past}
+use Rattle.place_sets.specs.Domains.{placeNumber, onlyPlace, Within}
+use Rattle.place_sets.proofs.DomainLaws.{number-le, only-has, each-length, within-at, set-within}
+use Rattle.weight_tables.specs.Tables.{Filled, tablesFit, entryAt, enoughLeft}
+use Rattle.weight_tables.proofs.EnoughLaws.{enough-filled, enough-safe}
+use Rattle.slot_rules.specs.SlotRules.{slotsRule, limitRule}
+use Rattle.slot_rules.proofs.SlotLaws.{slots-length, slots-within}
+use Rattle.slot_rules.proofs.LimitLaws.{limit-length}
+use Rattle.row_rules.specs.RowRules.{rowRule}
+use Rattle.row_rules.specs.RowsRule.{anyRule, rowsRule}
+use Rattle.row_rules.proofs.RowsLaws.{row-length, rows-within}
+use Rattle.table_rule.specs.Figures.{freeOf, firstIn, lacksOf}
+use Rattle.table_rule.specs.Rule.{tableRule, tablesBelow, fiveTables, tablesRule}
+use Rattle.table_rule.proofs.WithinLaws.{tables-within}
+use Rattle.look_ahead.specs.Look.{decided, alive, aliveOr, lookedAhead, isWorth}
+
+-- ---- the last choice stands where the plan has it
+
+pub decided-length : (slots : ℕ) (plan : List ℕ) (choice : ℕ) (domains : List ℕ) → length (decided slots plan choice domains) ≡ length domains
+unfolding decided
+decided-length slots plan zero domains = refl
+decided-length slots plan (suc choice) domains = length-set domains choice (onlyPlace (placeNumber slots (slotOf plan choice)))
+
+-- it is looked at in the start alone
+decided-start : (slots : ℕ) (plan : List ℕ) (choice : ℕ) (domains : List ℕ) → decided slots plan choice domains ≡ decided slots (take choice plan) choice domains
+unfolding decided slotOf
+decided-start slots plan zero domains = refl
+decided-start slots plan (suc choice) domains =
+    ap (λ (place : ℕ). set domains choice (onlyPlace (placeNumber slots place))) (sym (getD-take (suc choice) plan choice 255 (omega arith)))
+
+decided-within : (slots : ℕ) (plan : List ℕ) (choice : ℕ) (domains : List ℕ) → slots ≤ 24 → choice ≤ length domains → Within slots plan domains
+    → Within slots plan (decided slots plan choice domains)
+unfolding decided
+decided-within slots plan zero domains few h w = w
+decided-within slots plan (suc choice) domains few h w =
+    let p = placeNumber slots (slotOf plan choice) in
+    let l : p ≤ slots = number-le slots (slotOf plan choice) in
+    set-within slots plan domains w choice (onlyPlace p) (omega arith) λ k. only-has p p (omega (arith, l, few)) ∙ eq-eqb p p refl
+
+-- ---- no choice of the plan is without a place
+
+has-none : (place : ℕ) → has 0 place ≡ false
+has-none place = has-past 0 0 place (omega arith) (omega arith)
+
+place-left : (domain place : ℕ) → has domain place ≡ true → not (eqb domain 0) ≡ true
+place-left domain place h =
+    rw (ne-eqb domain 0 λ e. absurd (false≢true (sym (has-none place) ∙ ap (λ (x : ℕ). has x place) (sym e) ∙ h)))
+
+within-alive : (slots : ℕ) (plan : List ℕ) (choices : ℕ) (domains : List ℕ) → length plan ≡ choices → Within slots plan domains → alive choices domains ≡ true
+unfolding alive
+within-alive slots plan choices domains e w =
+    each-all choices (λ choice. not (eqb (getD domains choice 0) 0)) λ choice h.
+    place-left (getD domains choice 0) (placeNumber slots (slotOf plan choice)) (within-at slots plan domains w choice (omega (arith, e, h)))
+
+alive-within : (slots : ℕ) (plan : List ℕ) (choices : ℕ) (domains : List ℕ) → length plan ≡ choices → Within slots plan domains → Within slots plan (aliveOr choices domains)
+unfolding aliveOr
+alive-within slots plan choices domains e w = rw (within-alive slots plan choices domains e w) w
+
+alive-length : (choices : ℕ) (domains : List ℕ) → length domains ≡ 64 → length (aliveOr choices domains) ≡ 64
+unfolding aliveOr
+alive-length choices domains l = go (alive choices domains)
+  where
+    go : (b : Bool) → length (cond b domains (replicate 64 0)) ≡ 64
+    go true = l
+    go false = length-replicate {A = ℕ} 64 0
+
+-- ---- no rule changes how many domains there are
+
+tables-below : (entry : ℕ → ℕ → ℕ → ℕ) (counts : Counts) (maxs : List ℕ) (free from : ℕ) (lacks : List ℕ) (n : ℕ) (domains : List ℕ)
+    → length (tablesBelow entry counts maxs free from lacks n domains) ≡ length domains
+unfolding tablesBelow
+tables-below entry counts maxs free from lacks zero domains = refl
+tables-below entry counts maxs free from lacks (suc n) domains =
+    each-length (counts .choices) (tableRule entry counts maxs n free from lacks) (tablesBelow entry counts maxs free from lacks n domains)
+    ∙ tables-below entry counts maxs free from lacks n domains
+
+tables-length : (entry : ℕ → ℕ → ℕ → ℕ) (counts : Counts) (maxs domains : List ℕ) → length (tablesRule entry counts maxs domains) ≡ length domains
+unfolding tablesRule fiveTables
+tables-length entry counts maxs domains = go (tablesFit counts maxs && leb (counts .slots) 24)
+  where
+    free : ℕ
+    free = freeOf (counts .choices) domains
+
+    lacks : List ℕ
+    lacks = lacksOf (counts .slots) (counts .choices) (counts .choosers) maxs free domains
+
+    go : (b : Bool) → length (cond b (tablesBelow entry counts maxs free (firstIn (counts .choices) free) lacks 5 domains) domains) ≡ length domains
+    go true = tables-below entry counts maxs free (firstIn (counts .choices) free) lacks 5 domains
+    go false = refl
+
+any-length : (counts : Counts) (row : Row) (domains : List ℕ) → length (anyRule counts row domains) ≡ length domains
+unfolding anyRule
+any-length counts row domains = go (eqb (row .kind) 6)
+  where
+    go : (b : Bool) → length (cond b (limitRule counts row domains) (rowRule (counts .choices) (counts .slots) row domains)) ≡ length domains
+    go true = limit-length counts row domains
+    go false = row-length (counts .choices) (counts .slots) row domains
+
+rows-length : (counts : Counts) (rows domains : List ℕ) → length (rowsRule counts rows domains) ≡ length domains
+unfolding rowsRule
+rows-length counts [] domains = refl
+rows-length counts (number ∷ rows) domains =
+    rows-length counts rows (anyRule counts (rowOf number) domains) ∙ any-length counts (rowOf number) domains
+
+-- ---- the look ahead
+
+module _ (counts : Counts) (mins maxs rows tables plan : List ℕ) (choice : ℕ) (domains : List ℕ) where
+  -- of a plan the places before the choice matter alone
+  pub looked-start : choice ≤ length plan → lookedAhead counts mins maxs rows tables (take choice plan) choice domains ≡ lookedAhead counts mins maxs rows tables plan choice domains
+  unfolding lookedAhead
+  looked-start h =
+      ap
+      (λ (l : List ℕ). cond (alive (counts .choices) (tablesRule (entryAt tables) counts maxs l)) (aliveOr (counts .choices) (rowsRule counts rows (slotsRule counts mins maxs (tablesRule (entryAt tables) counts maxs l))))
+      (replicate 64 0))
+      (sym (decided-start (counts .slots) plan choice domains))
+
+  pub looked-length : length domains ≡ 64 → length (lookedAhead counts mins maxs rows tables plan choice domains) ≡ 64
+  unfolding lookedAhead
+  looked-length l = go (alive (counts .choices) weighed)
+    where
+      weighed : List ℕ
+      weighed = tablesRule (entryAt tables) counts maxs (decided (counts .slots) plan choice domains)
+
+      go : (b : Bool) → length (cond b (aliveOr (counts .choices) (rowsRule counts rows (slotsRule counts mins maxs weighed))) (replicate 64 0)) ≡ 64
+      go true =
+          alive-length (counts .choices) (rowsRule counts rows (slotsRule counts mins maxs weighed))
+          (rows-length counts rows (slotsRule counts mins maxs weighed)
+          ∙ slots-length counts mins maxs weighed
+          ∙ tables-length (entryAt tables) counts maxs (decided (counts .slots) plan choice domains)
+          ∙ decided-length (counts .slots) plan choice domains
+          ∙ l)
+      go false = length-replicate {A = ℕ} 64 0
+
+-- what the laws of the look ahead ask of a day
+pub record Looks (day : Day) (tables : List ℕ) : Type 0 where
+  pub few-choices : day .counts .choices ≤ 64
+  pub few-slots : day .counts .slots ≤ 24
+  pub few-choosers : day .counts .choosers ≤ 200
+  pub mins-fit : length (day .mins) ≡ day .counts .choices
+  pub maxs-fit : length (day .maxs) ≡ day .counts .choices
+  pub filled : Filled (day .counts) (day .maxs) tables
+
+module _ (day : Day) (tables : List ℕ) (looks : Looks day tables) (plan : List ℕ) (f : feasible day plan ≡ true) (size : length plan ≡ day .counts .choices) where
+  -- a feasible plan stays within what is left: each rule keeps it
+  pub looked-within : (choice : ℕ) (domains : List ℕ) → choice ≤ day .counts .choices → length domains ≡ 64 → Within (day .counts .slots) plan domains
+      → Within (day .counts .slots) plan (lookedAhead (day .counts) (day .mins) (day .maxs) (day .rows) tables (take choice plan) choice domains)
+  unfolding lookedAhead
+  looked-within choice domains h l w =
+      let last = decided (day .counts .slots) plan choice domains in
+      let weighed = tablesRule (entryAt tables) (day .counts) (day .maxs) last in
+      let summed = slotsRule (day .counts) (day .mins) (day .maxs) weighed in
+      let wl : Within (day .counts .slots) plan last =
+      decided-within (day .counts .slots) plan choice domains (looks .few-slots) (omega (arith, h, l, looks .few-choices)) w in
+      let ll : length last ≡ 64 = decided-length (day .counts .slots) plan choice domains ∙ l in
+      let lt : length weighed ≡ 64 = tables-length (entryAt tables) (day .counts) (day .maxs) last ∙ ll in
+      let ls : length summed ≡ 64 = slots-length (day .counts) (day .mins) (day .maxs) weighed ∙ lt in
+      let wt : Within (day .counts .slots) plan weighed = tables-within day plan tables last f size (looks .filled) ll wl in
+      let ws : Within (day .counts .slots) plan summed = slots-within day plan weighed f size lt wt in
+      rw (looked-start (day .counts) (day .mins) (day .maxs) (day .rows) tables plan choice domains (omega (arith, h, size)))
+      (rw (within-alive (day .counts .slots) plan (day .counts .choices) weighed size wt)
+      (alive-within (day .counts .slots) plan (day .counts .choices) (rowsRule (day .counts) (day .rows) summed) size
+      (rows-within day plan summed f size (looks .few-slots) ls ws)))
+
+  -- and its starts are worth going on from
+  pub worth-safe : (choice : ℕ) (fills : List ℕ) → choice ≤ day .counts .choices
+      → ((slot : ℕ) → getD fills slot 0 ≡ sumIn (day .maxs) (take choice plan) slot) → isWorth (day .counts) tables choice fills ≡ true
+  unfolding isWorth
+  worth-safe choice fills h e =
+      enough-filled (day .counts) (day .maxs) tables (looks .filled) (looks .few-choices) (looks .few-choosers) (day .counts .slots) choice fills h
+      ∙ enough-safe day plan f size choice fills h (λ slot hs. e slot)

@@ -1,0 +1,111 @@
+-- A law for each way through the functions of the look ahead.
+use mathlib.Core.Path.{_≡_, refl, sym, ap, _∙_}
+use mathlib.Core.Bool.{Bool, true, false, not, cond}
+use mathlib.Core.List.{List}
+use Prim.Native.Nat.{ℕ, zero, suc, _+_, _-_, _≤_, _<_}
+use native.Mathlib.Omega.{arith}
+use borrow.Author.Tests.{lt-ltb, le-ltb, eq-eqb, ne-eqb}
+use lib.Dec.{eqb}
+use lib.ListN.{length, getD, set, replicate, List·getD-eq-default}
+use lib.Seq.{set-out}
+use Rattle.lists.specs.Below.{allBelow}
+use Rattle.lists.proofs.Below.{all-more, one-fails}
+use Rattle.lists.proofs.Through.{all-none, all-done}
+use Rattle.constraint.specs.declared.check.Counts.{Counts}
+use Rattle.scheduling.specs.Plan.{slotOf}
+use Rattle.place_sets.specs.Domains.{placeNumber, onlyPlace}
+use Rattle.weight_tables.specs.Tables.{entryAt, enoughLeft}
+use Rattle.slot_rules.specs.SlotRules.{slotsRule}
+use Rattle.row_rules.specs.RowsRule.{rowsRule}
+use Rattle.table_rule.specs.Rule.{tablesRule}
+use Rattle.look_ahead.specs.Look.{decided, alive, aliveOr, lookedAhead, isWorth}
+
+-- ---- the last choice is decided
+
+module _ (slots : ℕ) (plan domains : List ℕ) where
+  pub none-decided : (choice : ℕ) → choice ≡ 0 → domains ≡ decided slots plan choice domains
+  unfolding decided
+  none-decided choice e = rw e
+
+  pub last-decided : (choice : ℕ) → (choice ≡ 0 → ⊥) → decided slots plan choice domains ≡ set domains (choice - 1) (onlyPlace (placeNumber slots (slotOf plan (choice - 1))))
+  unfolding decided
+  last-decided zero n = absurd (n refl)
+  last-decided (suc choice) n =
+      let e : suc choice - 1 ≡ choice = omega arith in
+      rw e
+
+  -- no choice past 63 has a domain
+  pub past-decided : (choice : ℕ) → (choice ≡ 0 → ⊥) → 64 < choice → length domains ≡ 64 → domains ≡ decided slots plan choice domains
+  past-decided choice n h l =
+      sym (last-decided choice n ∙ set-out domains (choice - 1) (onlyPlace (placeNumber slots (slotOf plan (choice - 1)))) (omega (arith, h, l)))
+
+  pub now-decided : (choice : ℕ) {place number only : ℕ} → (choice ≡ 0 → ⊥) → place ≡ slotOf plan (choice - 1) → number ≡ placeNumber slots place → only ≡ onlyPlace number
+      → set domains (choice - 1) only ≡ decided slots plan choice domains
+  now-decided choice n p m o = sym (last-decided choice n ∙ rw (o, m, p))
+
+-- ---- whether every choice has a place
+
+module _ (choices : ℕ) (domains : List ℕ) where
+  pub one-dead : (choice : ℕ) → choice < choices → getD domains choice 0 ≡ 0 → false ≡ alive choices domains
+  unfolding alive
+  one-dead choice h e = sym (one-fails choices (λ choice. not (eqb (getD domains choice 0) 0)) choice h (rw (eq-eqb (getD domains choice 0) 0 e)))
+
+  -- a choice without a domain has no place
+  pub many-dead : length domains < choices → false ≡ alive choices domains
+  many-dead h = one-dead (length domains) h (List·getD-eq-default domains 0 (omega arith))
+
+  pub all-alive : (choice : ℕ) → choice ≤ choices → choices ≤ choice → alive choice domains ≡ true → true ≡ alive choices domains
+  unfolding alive
+  all-alive choice a b h = all-done (λ choice. not (eqb (getD domains choice 0) 0)) choices choice a b h
+
+  pub ends : alive choices domains ≡ false → replicate 64 0 ≡ aliveOr choices domains
+  unfolding aliveOr
+  ends f = rw f
+
+  pub goes-on : alive choices domains ≡ true → domains ≡ aliveOr choices domains
+  unfolding aliveOr
+  goes-on t = rw t
+
+pub none-dead : (domains : List ℕ) → alive 0 domains ≡ true
+unfolding alive
+none-dead domains = all-none (λ choice. not (eqb (getD domains choice 0) 0))
+
+pub more-alive : (domains : List ℕ) (choice : ℕ) → alive choice domains ≡ true → (getD domains choice 0 ≡ 0 → ⊥) → alive (choice + 1) domains ≡ true
+unfolding alive
+more-alive domains choice h n = all-more (λ choice. not (eqb (getD domains choice 0) 0)) choice h (rw (ne-eqb (getD domains choice 0) 0 n))
+
+-- ---- the look ahead, by counts that are known by now
+
+module _ (counts : Counts) (mins maxs rows tables plan : List ℕ) (choice : ℕ) (domains : List ℕ) where
+  module _ {counts' : Counts} {last weighed : List ℕ} (e : counts' ≡ counts) (d : last ≡ decided (counts' .slots) plan choice domains)
+      (t : weighed ≡ tablesRule (entryAt tables) counts' maxs last) {living : Bool} (l : living ≡ alive (counts' .choices) weighed) where
+    weighed-is : weighed ≡ tablesRule (entryAt tables) counts maxs (decided (counts .slots) plan choice domains)
+    weighed-is = t ∙ ap (tablesRule (entryAt tables) counts' maxs) d ∙ ap (λ (k : Counts). tablesRule (entryAt tables) k maxs (decided (k .slots) plan choice domains)) e
+
+    living-is : living ≡ alive (counts .choices) (tablesRule (entryAt tables) counts maxs (decided (counts .slots) plan choice domains))
+    living-is = l ∙ ap (λ (k : Counts). alive (k .choices) weighed) e ∙ ap (alive (counts .choices)) weighed-is
+
+    -- dead by the tables alone
+    pub looked-dead : {seen : List ℕ} → living ≡ false → seen ≡ replicate 64 0 → seen ≡ lookedAhead counts mins maxs rows tables plan choice domains
+    unfolding lookedAhead
+    looked-dead f n = n ∙ sym (rw (sym living-is ∙ f))
+
+    -- rule after rule
+    pub looked-by : {summed kept seen : List ℕ} → living ≡ true
+        → summed ≡ slotsRule counts' mins maxs weighed
+        → kept ≡ rowsRule counts' rows summed
+        → seen ≡ aliveOr (counts' .choices) kept
+        → seen ≡ lookedAhead counts mins maxs rows tables plan choice domains
+    unfolding lookedAhead
+    looked-by y s r a =
+        a
+        ∙ ap (aliveOr (counts' .choices)) (r ∙ ap (rowsRule counts' rows) s)
+        ∙ ap (λ (k : Counts). aliveOr (k .choices) (rowsRule k rows (slotsRule k mins maxs weighed))) e
+        ∙ ap (λ (w : List ℕ). aliveOr (counts .choices) (rowsRule counts rows (slotsRule counts mins maxs w))) weighed-is
+        ∙ sym (rw (sym living-is ∙ y))
+
+pub worth-by : (counts : Counts) (tables : List ℕ) (choice : ℕ) (fills : List ℕ) {counts' : Counts} {worth : Bool} → counts' ≡ counts
+    → worth ≡ enoughLeft (entryAt tables) (counts' .slots) (counts' .choosers) (counts' .choices) choice fills → worth ≡ isWorth counts tables choice fills
+unfolding isWorth
+worth-by counts tables choice fills e w =
+    w ∙ ap (λ (k : Counts). enoughLeft (entryAt tables) (k .slots) (k .choosers) (k .choices) choice fills) e

@@ -1,0 +1,20 @@
+-- A slot, or omission.
+use mathlib.Core.Path.{sym}
+use Rattle.place_sets.proofs.DomainLaws.{number-in, number-out}
+use Rattle.look_ahead.proofs.decided.place_number.Statement.{statement}
+use Rattle.look_ahead.proofs.decided.place_number.Tie as tie
+use Rattle.look_ahead.proofs.decided.place_number.Reads as reads
+use Rattle.look_ahead.proofs.decided.place_number.Lts as lts
+
+-- src/decided.rt:14:9
+returns : tie.Need-returns
+returns c =
+    sym (number-in _ _ (c .if1 .taken))
+
+-- src/decided.rt:9:1
+returns-2 : tie.Need-returns-2
+returns-2 c =
+    sym (number-out _ _ (c .if1 .left))
+
+pub place-number-spec : {M : Type 1} → statement M
+place-number-spec = tie.close (tie.spec returns returns-2)

@@ -1,0 +1,47 @@
+-- The places that each choice may still take. A domain is a set of places, as one number: a slot by its number, omission by the number after the last slot.
+use mathlib.Core.Path.{_≡_}
+use mathlib.Core.Bool.{Bool, true, _&&_, _||_, not, cond}
+use mathlib.Core.List.{List}
+use Prim.Native.Nat.{ℕ, zero, suc, _+_, _-_, _<_, _^_}
+use lib.Dec.{eqb, ltb, leb}
+use lib.ListN.{length, getD, set}
+use Rattle.scheduling.specs.Plan.{slotOf}
+use Rattle.choice_sets.specs.Sets.{has, setOf, sizeOf}
+
+-- a place's number in a domain
+unfoldable pub placeNumber : ℕ → ℕ → ℕ
+placeNumber slots place = cond (ltb place slots) place slots
+
+-- every choice of the plan stands where its domain lets it
+unfoldable pub Within : ℕ → List ℕ → List ℕ → Type 0
+Within slots plan domains =
+    (choice : ℕ) → choice < length plan → has (getD domains choice 0) (placeNumber slots (slotOf plan choice)) ≡ true
+
+-- a choice's places before anything is decided: every slot, and omission if it is optional
+unfoldable pub firstDomain : ℕ → ℕ → ℕ
+firstDomain slots flag = setOf 64 λ place. ltb place slots || (eqb place slots && eqb flag 1)
+
+-- the domain that holds one place alone
+unfoldable pub onlyPlace : ℕ → ℕ
+onlyPlace place = setOf 64 λ p. eqb p place
+
+-- what is left of a domain if the choice may stand in the slot or not, and may stand elsewhere or not
+unfoldable pub keptPlaces : ℕ → ℕ → Bool → Bool → ℕ
+keptPlaces domain slot stands leaves = setOf 64 λ place. has domain place && cond (eqb place slot) stands leaves
+
+-- the places of both
+unfoldable pub bothPlaces : ℕ → ℕ → ℕ
+bothPlaces one other = setOf 64 λ place. has one place && has other place
+
+-- a choice that has one place left is settled
+unfoldable pub settled : ℕ → Bool
+settled domain = leb (sizeOf domain) 1
+
+-- and it must stand in a slot if that place isn't omission
+unfoldable pub inOneSlot : ℕ → ℕ → Bool
+inOneSlot slots domain = eqb (sizeOf domain) 1 && not (has domain slots)
+
+-- each of the first domains changed by its choice's own rule
+unfoldable pub eachBelow : ℕ → (ℕ → ℕ → ℕ) → List ℕ → List ℕ
+eachBelow zero rule domains = domains
+eachBelow (suc n) rule domains = set (eachBelow n rule domains) n (rule n (getD domains n 0))

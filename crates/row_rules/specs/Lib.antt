@@ -1,0 +1,3 @@
+pub mod RowRules
+pub mod RowsRule
+pub mod steps

@@ -1,0 +1,333 @@
+-- Each way through the code, over plain variables.
+use mathlib.Core.Path.{_≡_, refl, sym, _∙_, ap, ap₂}
+use mathlib.Core.Bool.{Bool, true, false, _&&_, not, cond}
+use mathlib.Core.List.{List}
+use Prim.Native.Nat.{ℕ, zero, suc, _+_, _-_, _≤_, _<_, max}
+use native.Mathlib.Numerals.{add-one}
+use native.Mathlib.Omega.{arith}
+use borrow.Author.Tests.{le-leb, lt-leb, leb-true, leb-false, le-ltb, lt-ltb, eq-eqb, ne-eqb}
+use lib.Dec.{eqb, ltb, leb}
+use lib.ListN.{length, getD, set}
+use lib.Seq.{getD-set-other}
+use Rattle.lists.specs.Below.{one, countBelow, sumBelow}
+use Rattle.lists.proofs.Below.{count-more, sum-more}
+use Rattle.lists.proofs.CountBelow.{count-le}
+use Rattle.constraint.specs.Op.{eqOp, gtOp, geqOp, neqOp, leqOp, ltOp}
+use Rattle.constraint.specs.declared.check.Counts.{Counts}
+use Rattle.constraint.specs.declared.row.Row.{Row}
+use Rattle.choice_sets.specs.Sets.{has}
+use Rattle.place_sets.specs.Domains.{onlyPlace, keptPlaces, eachBelow}
+use Rattle.slot_rules.specs.SlotRules.{certain, possible, minimumFits, maximumSpared, slotLeaves, sumsLeave, largestBelow, idle, slotRule, slotsBelow, amountsFit, slotsRule, mustCount, mayCount, opCan, limitLeaves, limitFits, limitRule}
+
+-- ---- small functions
+
+-- an amount, or nothing
+pub given-none : (test : Bool) (amount : ℕ) → test ≡ false → (0 ≡ cond test amount 0) × (0 ≤ 65535)
+given-none test amount e = (rw e, omega arith)
+
+pub given-all : (test : Bool) (amount : ℕ) → test ≡ true → amount ≤ 65535 → (amount ≡ cond test amount 0) × (amount ≤ 65535)
+given-all test amount e h = (rw e, h)
+
+-- a sum of two against a third, the second taken from it
+pub sum-over : (a b c : ℕ) → c < b → false ≡ leb (a + b) c
+sum-over a b c h = sym (lt-leb (a + b) c (omega arith))
+
+pub sum-by : (a b c : ℕ) → b ≤ c → leb a (c - b) ≡ leb (a + b) c
+sum-by a b c h = go (leb a (c - b)) refl
+  where
+    go : (t : Bool) → leb a (c - b) ≡ t → t ≡ leb (a + b) c
+    go true t = sym (le-leb (a + b) c (omega (arith, leb-true a (c - b) t)))
+    go false t = sym (lt-leb (a + b) c (omega (arith, leb-false a (c - b) t)))
+
+-- one, or none
+pub one-true : (test : Bool) → test ≡ true → 1 ≡ one test
+unfolding one
+one-true test e = rw e
+
+pub one-false : (test : Bool) → test ≡ false → 0 ≡ one test
+unfolding one
+one-false test e = rw e
+
+pub more-none : (n : ℕ) (test : Bool) → test ≡ true → n ≡ n + one (not test)
+unfolding one
+more-none n test e = rw e (omega arith)
+
+pub more-one : (n : ℕ) (test : Bool) → test ≡ false → n + 1 ≡ n + one (not test)
+unfolding one
+more-one n test e = rw e
+
+pub less-none : (n : ℕ) (test : Bool) → test ≡ false → n ≡ n - one test
+unfolding one
+less-none n test e = rw e (omega arith)
+
+pub less-one : (n : ℕ) (test : Bool) → test ≡ true → n - 1 ≡ n - one test
+unfolding one
+less-one n test e = rw e
+
+-- a number from low to high, and another one
+module _ (low number high : ℕ) where
+  pub between-under : number < low → false ≡ (leb low number && leb number high)
+  between-under h = rw (lt-leb low number h)
+
+  pub between-by : low ≤ number → leb number high ≡ (leb low number && leb number high)
+  between-by h = rw (le-leb low number h)
+
+  pub another-low : (low ≡ number → ⊥) → true ≡ not (eqb low number && eqb high number)
+  another-low n = rw (ne-eqb low number n)
+
+  pub another-high : low ≡ number → not (eqb high number) ≡ not (eqb low number && eqb high number)
+  another-high e = rw (eq-eqb low number e)
+
+-- the op decides the comparison
+module _ (op low high limit : ℕ) where
+  pub can-eq : op ≡ eqOp → (leb low limit && leb limit high) ≡ opCan op low high limit
+  unfolding opCan
+  can-eq e = rw e
+
+  pub can-neq : op ≡ neqOp → not (eqb low limit && eqb high limit) ≡ opCan op low high limit
+  unfolding opCan
+  can-neq e = rw e
+
+  pub can-gt : op ≡ gtOp → ltb limit high ≡ opCan op low high limit
+  unfolding opCan
+  can-gt e = rw e
+
+  pub can-lt : op ≡ ltOp → ltb low limit ≡ opCan op low high limit
+  unfolding opCan
+  can-lt e = rw e
+
+  pub can-geq : op ≡ geqOp → leb limit high ≡ opCan op low high limit
+  unfolding opCan
+  can-geq e = rw e
+
+  pub can-leq : op ≡ leqOp → leb low limit ≡ opCan op low high limit
+  unfolding opCan
+  can-leq e = rw e
+
+  pub can-not : (op ≡ eqOp → ⊥) → (op ≡ neqOp → ⊥) → (op ≡ gtOp → ⊥) → (op ≡ ltOp → ⊥) → (op ≡ geqOp → ⊥) → (op ≡ leqOp → ⊥)
+      → false ≡ opCan op low high limit
+  unfolding opCan
+  can-not a b c d e f =
+      sym (simp (ne-eqb _ _ a, ne-eqb _ _ b, ne-eqb _ _ c, ne-eqb _ _ d, ne-eqb _ _ e, ne-eqb _ _ f))
+
+-- ---- the sums and the counts, one choice more
+
+module _ (n : ℕ) (domains : List ℕ) (slot : ℕ) where
+  pub certain-more : (amounts : List ℕ) (sum part : ℕ) (test : Bool) → sum ≡ certain n amounts domains slot → part ≡ cond test (getD amounts n 0) 0
+      → test ≡ eqb (getD domains n 0) (onlyPlace slot) → sum + part ≡ certain (n + 1) amounts domains slot
+  unfolding certain
+  certain-more amounts sum part test e f g =
+      ap₂ (λ (x y : ℕ). x + y) e (f ∙ ap (λ (b : Bool). cond b (getD amounts n 0) 0) g)
+      ∙ sym (sum-more (λ choice. cond (eqb (getD domains choice 0) (onlyPlace slot)) (getD amounts choice 0) 0) n)
+
+  pub possible-more : (amounts : List ℕ) (sum part : ℕ) (test : Bool) → sum ≡ possible n amounts domains slot → part ≡ cond test (getD amounts n 0) 0
+      → test ≡ has (getD domains n 0) slot → sum + part ≡ possible (n + 1) amounts domains slot
+  unfolding possible
+  possible-more amounts sum part test e f g =
+      ap₂ (λ (x y : ℕ). x + y) e (f ∙ ap (λ (b : Bool). cond b (getD amounts n 0) 0) g)
+      ∙ sym (sum-more (λ choice. cond (has (getD domains choice 0) slot) (getD amounts choice 0) 0) n)
+
+  pub must-more : (count part : ℕ) (test : Bool) → count ≡ mustCount n domains slot → part ≡ one test
+      → test ≡ eqb (getD domains n 0) (onlyPlace slot) → count + part ≡ mustCount (n + 1) domains slot
+  unfolding mustCount
+  must-more count part test e f g =
+      ap₂ (λ (x y : ℕ). x + y) e (f ∙ ap one g) ∙ sym (count-more (λ choice. eqb (getD domains choice 0) (onlyPlace slot)) n)
+
+  pub may-more : (count part : ℕ) (test : Bool) → count ≡ mayCount n domains slot → part ≡ one test
+      → test ≡ has (getD domains n 0) slot → count + part ≡ mayCount (n + 1) domains slot
+  unfolding mayCount
+  may-more count part test e f g =
+      ap₂ (λ (x y : ℕ). x + y) e (f ∙ ap one g) ∙ sym (count-more (λ choice. has (getD domains choice 0) slot) n)
+
+  -- no more than there are choices
+  pub must-le : mustCount n domains slot ≤ n
+  unfolding mustCount
+  must-le = count-le n λ choice. eqb (getD domains choice 0) (onlyPlace slot)
+
+  pub may-le : mayCount n domains slot ≤ n
+  unfolding mayCount
+  may-le = count-le n λ choice. has (getD domains choice 0) slot
+
+-- before the first choice
+module _ (domains : List ℕ) (slot : ℕ) where
+  pub certain-none : (amounts : List ℕ) → 0 ≡ certain 0 amounts domains slot
+  unfolding certain sumBelow
+  certain-none amounts = refl
+
+  pub possible-none : (amounts : List ℕ) → 0 ≡ possible 0 amounts domains slot
+  unfolding possible sumBelow
+  possible-none amounts = refl
+
+  pub must-none : 0 ≡ mustCount 0 domains slot
+  unfolding mustCount countBelow
+  must-none = refl
+
+  pub may-none : 0 ≡ mayCount 0 domains slot
+  unfolding mayCount countBelow
+  may-none = refl
+
+-- ---- one domain
+
+not-cond : (b : Bool) (x : ℕ) → cond (not b) x 0 ≡ cond b 0 x
+not-cond true x = refl
+not-cond false x = refl
+
+pub slot-leaves : (choosers slot sure able least most domain low high r : ℕ) (only here stands leaves : Bool)
+    → only ≡ eqb domain (onlyPlace slot) → low ≡ cond (not only) least 0 → stands ≡ leb (sure + low) choosers
+    → here ≡ has domain slot → high ≡ cond here most 0 → leaves ≡ leb (choosers + high) able
+    → r ≡ keptPlaces domain slot stands leaves → r ≡ slotLeaves choosers slot sure able least most domain
+unfolding slotLeaves minimumFits maximumSpared
+slot-leaves choosers slot sure able least most domain low high r only here stands leaves o l s h m t e =
+    let low' : low ≡ cond (eqb domain (onlyPlace slot)) 0 least = l ∙ not-cond only least ∙ ap (λ (b : Bool). cond b 0 least) o in
+    let high' : high ≡ cond (has domain slot) most 0 = m ∙ ap (λ (b : Bool). cond b most 0) h in
+    e
+    ∙ ap₂ (λ (a b : Bool). keptPlaces domain slot a b) (s ∙ ap (λ (x : ℕ). leb (sure + x) choosers) low')
+    (t ∙ ap (λ (x : ℕ). leb (choosers + x) able) high')
+
+pub limit-leaves : (row : Row) (must may domain m1 m2 m3 m4 r : ℕ) (only here stands leaves : Bool)
+    → only ≡ eqb domain (onlyPlace (row .left)) → here ≡ has domain (row .left)
+    → m1 ≡ must + one (not only) → m2 ≡ may + one (not here) → stands ≡ opCan (row .extra) m1 m2 (row .right)
+    → m3 ≡ must - one only → m4 ≡ may - one here → leaves ≡ opCan (row .extra) m3 m4 (row .right)
+    → r ≡ keptPlaces domain (row .left) stands leaves → r ≡ limitLeaves row must may domain
+unfolding limitLeaves
+limit-leaves row must may domain m1 m2 m3 m4 r only here stands leaves o h a b s c d t e =
+    e
+    ∙ ap₂ (λ (x y : Bool). keptPlaces domain (row .left) x y)
+    (s ∙ ap₂ (λ (x y : ℕ). opCan (row .extra) x y (row .right)) (a ∙ ap (λ (x : Bool). must + one (not x)) o) (b ∙ ap (λ (x : Bool). may + one (not x)) h))
+    (t ∙ ap₂ (λ (x y : ℕ). opCan (row .extra) x y (row .right)) (c ∙ ap (λ (x : Bool). must - one x) o) (d ∙ ap (λ (x : Bool). may - one x) h))
+
+-- ---- every domain
+
+pub each-none : (rule : ℕ → ℕ → ℕ) (domains : List ℕ) → domains ≡ eachBelow 0 rule domains
+unfolding eachBelow
+each-none rule domains = refl
+
+-- those not yet changed are as the rule found them
+each-later : (n : ℕ) (rule : ℕ → ℕ → ℕ) (domains : List ℕ) (i : ℕ) → n ≤ i → getD (eachBelow n rule domains) i 0 ≡ getD domains i 0
+unfolding eachBelow
+each-later zero rule domains i h = refl
+each-later (suc n) rule domains i h =
+    getD-set-other (eachBelow n rule domains) n i (rule n (getD domains n 0)) 0 (λ e. omega arith)
+    ∙ each-later n rule domains i (omega arith)
+
+-- one more
+pub each-more : (n : ℕ) (rule : ℕ → ℕ → ℕ) (first domains : List ℕ) (v : ℕ) → domains ≡ eachBelow n rule first
+    → v ≡ rule n (getD domains n 0) → set domains n v ≡ eachBelow (n + 1) rule first
+unfolding eachBelow
+each-more n rule first domains v e f =
+    let g : getD domains n 0 ≡ getD first n 0 = ap (λ (l : List ℕ). getD l n 0) e ∙ each-later n rule first n (omega arith) in
+    rw (add-one n) (ap₂ (λ (l : List ℕ) (x : ℕ). set l n x) e (f ∙ ap (rule n) g))
+
+-- what the loops hand on: the rules with the sums and counts that the code has
+abbrev pub slotStep : Counts → ℕ → ℕ → ℕ → List ℕ → List ℕ → ℕ → ℕ → ℕ
+slotStep counts slot sure able mins maxs choice domain =
+    slotLeaves (counts .choosers) slot sure able (getD mins choice 0) (getD maxs choice 0) domain
+
+abbrev pub limitStep : Row → ℕ → ℕ → ℕ → ℕ → ℕ
+limitStep row must may choice domain = limitLeaves row must may domain
+
+pub sums-done : (counts : Counts) (mins maxs first domains : List ℕ) (slot sure able : ℕ) → domains ≡ eachBelow (counts .choices) (slotStep counts slot sure able mins maxs) first
+    → domains ≡ sumsLeave counts mins maxs slot sure able first
+unfolding sumsLeave
+sums-done counts mins maxs first domains slot sure able e = e
+
+-- ---- a slot passed over
+
+pub largest-none : (amounts : List ℕ) → 0 ≡ largestBelow 0 amounts
+unfolding largestBelow
+largest-none amounts = refl
+
+pub largest-more : (n : ℕ) (amounts : List ℕ) (high r : ℕ) → high ≡ largestBelow n amounts → r ≡ max high (getD amounts n 0)
+    → r ≡ largestBelow (n + 1) amounts
+unfolding largestBelow
+largest-more n amounts high r e f =
+    f ∙ ap (λ (x : ℕ). max x (getD amounts n 0)) e ∙ ap (λ (k : ℕ). largestBelow k amounts) (sym (add-one n))
+
+-- no room for the largest minimum; else the largest maximum decides
+module _ (choosers sure able least most : ℕ) where
+  pub idle-not : (fits : Bool) → fits ≡ leb (sure + least) choosers → fits ≡ false → false ≡ idle choosers sure able least most
+  unfolding idle
+  idle-not fits e f = rw (sym e ∙ f)
+
+  pub idle-by : (fits spared : Bool) → fits ≡ leb (sure + least) choosers → fits ≡ true → spared ≡ leb (choosers + most) able
+      → spared ≡ idle choosers sure able least most
+  unfolding idle
+  idle-by fits spared e f g = rw (sym e ∙ f) g
+
+module _ (counts : Counts) (mins maxs first : List ℕ) (slot sure able least most : ℕ) (test : Bool)
+    (a : sure ≡ certain (counts .choices) mins first slot) (b : able ≡ possible (counts .choices) maxs first slot)
+    (l : least ≡ largestBelow (counts .choices) mins) (m : most ≡ largestBelow (counts .choices) maxs)
+    (e : test ≡ idle (counts .choosers) sure able least most) where
+  -- the test with the sums and the largest amounts that the code has
+  test-is : test
+      ≡ idle (counts .choosers) (certain (counts .choices) mins first slot) (possible (counts .choices) maxs first slot)
+      (largestBelow (counts .choices) mins) (largestBelow (counts .choices) maxs)
+  test-is =
+      e ∙ ap₂ (λ (x y : ℕ). idle (counts .choosers) x y least most) a b
+      ∙ ap₂ (λ (x y : ℕ). idle (counts .choosers) (certain (counts .choices) mins first slot) (possible (counts .choices) maxs first slot) x y) l m
+
+  pub slot-idle : test ≡ true → first ≡ slotRule counts mins maxs slot first
+  unfolding slotRule
+  slot-idle t = rw (sym test-is ∙ t)
+
+  pub slot-done : (domains : List ℕ) → test ≡ false → domains ≡ sumsLeave counts mins maxs slot sure able first → domains ≡ slotRule counts mins maxs slot first
+  unfolding slotRule
+  slot-done domains t d =
+      rw (sym test-is ∙ t) (d ∙ ap₂ (λ (x y : ℕ). sumsLeave counts mins maxs slot x y first) a b)
+
+-- ---- every slot
+
+pub slots-none : (counts : Counts) (mins maxs domains : List ℕ) → domains ≡ slotsBelow counts mins maxs 0 domains
+unfolding slotsBelow
+slots-none counts mins maxs domains = refl
+
+pub slots-more : (counts : Counts) (mins maxs first domains next : List ℕ) (slot : ℕ) → domains ≡ slotsBelow counts mins maxs slot first
+    → next ≡ slotRule counts mins maxs slot domains → next ≡ slotsBelow counts mins maxs (slot + 1) first
+unfolding slotsBelow
+slots-more counts mins maxs first domains next slot e f = rw (add-one slot) (f ∙ ap (slotRule counts mins maxs slot) e)
+
+-- ---- the calls
+
+module _ (counts : Counts) (mins maxs domains : List ℕ) where
+  pub slots-choices : 64 < counts .choices → domains ≡ slotsRule counts mins maxs domains
+  unfolding slotsRule amountsFit
+  slots-choices h = rw (lt-leb _ _ h)
+
+  pub slots-slots : counts .choices ≤ 64 → 24 < counts .slots → domains ≡ slotsRule counts mins maxs domains
+  unfolding slotsRule amountsFit
+  slots-slots c h = rw (le-leb _ _ c, lt-leb _ _ h)
+
+  pub slots-mins : counts .choices ≤ 64 → counts .slots ≤ 24 → (length mins ≡ counts .choices → ⊥) → domains ≡ slotsRule counts mins maxs domains
+  unfolding slotsRule amountsFit
+  slots-mins c s n = rw (le-leb _ _ c, le-leb _ _ s, ne-eqb _ _ n)
+
+  pub slots-maxs : counts .choices ≤ 64 → counts .slots ≤ 24 → length mins ≡ counts .choices → (length maxs ≡ counts .choices → ⊥)
+      → domains ≡ slotsRule counts mins maxs domains
+  unfolding slotsRule amountsFit
+  slots-maxs c s a n = rw (le-leb _ _ c, le-leb _ _ s, eq-eqb _ _ a, ne-eqb _ _ n)
+
+  pub slots-done : counts .choices ≤ 64 → counts .slots ≤ 24 → length mins ≡ counts .choices → length maxs ≡ counts .choices
+      → slotsBelow counts mins maxs (counts .slots) domains ≡ slotsRule counts mins maxs domains
+  unfolding slotsRule amountsFit
+  slots-done c s a b = rw (le-leb _ _ c, le-leb _ _ s, eq-eqb _ _ a, eq-eqb _ _ b)
+
+module _ (counts : Counts) (row : Row) (domains : List ℕ) where
+  pub limit-choices : 64 < counts .choices → domains ≡ limitRule counts row domains
+  unfolding limitRule limitFits
+  limit-choices h = rw (lt-leb _ _ h)
+
+  pub limit-slots : counts .choices ≤ 64 → 24 < counts .slots → domains ≡ limitRule counts row domains
+  unfolding limitRule limitFits
+  limit-slots c h = rw (le-leb _ _ c, lt-leb _ _ h)
+
+  pub limit-past : counts .choices ≤ 64 → counts .slots ≤ 24 → counts .slots ≤ row .left → domains ≡ limitRule counts row domains
+  unfolding limitRule limitFits
+  limit-past c s h = rw (le-leb _ _ c, le-leb _ _ s, le-ltb _ _ h)
+
+  pub limit-done : (must may : ℕ) (last : List ℕ) → counts .choices ≤ 64 → counts .slots ≤ 24 → row .left < counts .slots
+      → must ≡ mustCount (counts .choices) domains (row .left) → may ≡ mayCount (counts .choices) domains (row .left)
+      → last ≡ eachBelow (counts .choices) (limitStep row must may) domains → last ≡ limitRule counts row domains
+  unfolding limitRule limitFits
+  limit-done must may last c s h a b e =
+      rw (le-leb _ _ c, le-leb _ _ s, lt-ltb _ _ h)
+      (e ∙ ap₂ (λ (x y : ℕ). eachBelow (counts .choices) (limitStep row x y) domains) a b)

@@ -1,0 +1,160 @@
+// Kind 6's sentence, '6: count of choices in the slot against the limit', as a rule that takes places away.
+use choice_sets::set::member;
+use constraint::check::Counts;
+use constraint::op::Op;
+use constraint::row::Row;
+use place_sets::places::is_only;
+use place_sets::places::kept;
+ghost use mathlib.Core.Path.{_≡_};
+ghost use mathlib.Core.Bool.{_&&_, not};
+ghost use Prim.Native.Nat.{_+_, _-_, _≤_, _<_};
+ghost use lib.Dec.{eqb, leb};
+ghost use Rattle.lists.specs.Below.{one};
+ghost use Rattle.constraint.specs.Row.{rowOf};
+ghost use Rattle.slot_rules.specs.SlotRules.{mustCount, mayCount, opCan, limitLeaves, limitRule};
+
+// How many choices must stand in a slot, and how many may.
+struct SlotCounts {
+    must: usize,
+    may: usize,
+}
+
+// 1 for a test that holds.
+fn one_if(test: bool) -> usize
+    ensures { λ r. ⌜ (r ≡ one test) × (r ≤ 1) ⌝ }
+{
+    if test {
+        return 1;
+    }
+    0
+}
+
+// One pass over the choices for both counts.
+fn slot_counts(choices: usize, slot: usize, domains: &[u64; 64]) -> SlotCounts
+    requires { ⌜ choices ≤ 64 ⌝ }
+    ensures { λ r. ⌜ (r .must ≡ mustCount choices (now (domains .entry)) slot) × (r .may ≡ mayCount choices (now (domains .entry)) slot) ⌝ }
+{
+    let mut must = 0;
+    let mut may = 0;
+    let mut choice = 0;
+    while choice < choices {
+        let domain = domains[choice];
+        must += one_if(is_only(domain, slot));
+        may += one_if(member(domain, slot));
+        choice += 1;
+    }
+    SlotCounts { must, may }
+}
+
+// Whether a number lies from low to high.
+fn between(low: usize, number: usize, high: usize) -> bool
+    ensures { λ r. ⌜ r ≡ (leb low number && leb number high) ⌝ }
+{
+    if number < low {
+        return false;
+    }
+    number <= high
+}
+
+// Whether another number than this one lies from low to high.
+fn another(low: usize, number: usize, high: usize) -> bool
+    ensures { λ r. ⌜ r ≡ not (eqb low number && eqb high number) ⌝ }
+{
+    if low != number {
+        return true;
+    }
+    high != number
+}
+
+// Whether some count from low to high keeps the limit, by the op.
+fn op_can(op: u16, low: usize, high: usize, limit: usize) -> bool
+    ensures { λ r. ⌜ r ≡ opCan op low high limit ⌝ }
+{
+    match op {
+        Op::EQ => between(low, limit, high),
+        Op::NEQ => another(low, limit, high),
+        Op::GT => limit < high,
+        Op::LT => low < limit,
+        Op::GEQ => limit <= high,
+        Op::LEQ => low <= limit,
+        _ => false,
+    }
+}
+
+// A count with one more where the test fails.
+fn with_another(count: usize, test: bool) -> usize
+    requires { ⌜ count ≤ 64 ⌝ }
+    ensures { λ r. ⌜ r ≡ count + one (not test) ⌝ }
+{
+    if test {
+        return count;
+    }
+    count + 1
+}
+
+// A count with one less where the test holds.
+fn without(count: usize, test: bool) -> usize
+    ensures { λ r. ⌜ r ≡ count - one test ⌝ }
+{
+    if !test {
+        return count;
+    }
+    if count == 0 {
+        return 0;
+    }
+    count - 1
+}
+
+// What the limit leaves of one domain.
+fn limit_leaves(row: Row, counts: SlotCounts, domain: u64) -> u64
+    requires { ⌜ (counts .must ≤ 64) × (counts .may ≤ 64) ⌝ }
+    ensures { λ r. ⌜ r ≡ limitLeaves row (counts .must) (counts .may) domain ⌝ }
+{
+    let slot = row.left as usize;
+    let limit = row.right as usize;
+    let only = is_only(domain, slot);
+    let has = member(domain, slot);
+    let stands = op_can(
+        row.extra,
+        with_another(counts.must, only),
+        with_another(counts.may, has),
+        limit,
+    );
+    let leaves = op_can(
+        row.extra,
+        without(counts.must, only),
+        without(counts.may, has),
+        limit,
+    );
+    kept(domain, slot, stands, leaves)
+}
+
+// What the limit leaves of every domain.
+fn narrow_each(counts: Counts, row: Row, domains: &mut [u64; 64])
+    requires { ⌜ (counts .choices ≤ 64) × (counts .slots ≤ 24) × (row .left < counts .slots) ⌝ }
+    ensures { λ r. ⌜ now (domains .exit) ≡ limitRule counts row (now (domains .entry)) ⌝ }
+{
+    let slot_counts = slot_counts(counts.choices, row.left as usize, domains);
+    let mut choice = 0;
+    while choice < counts.choices {
+        domains[choice] = limit_leaves(row, slot_counts, domains[choice]);
+        choice += 1;
+    }
+}
+
+// Takes away every place that a row of kind 6 leaves to no plan; a row of no slot of the day changes nothing. The caller looks at the kind.
+pub fn narrow_by_limit(counts: Counts, number: u64, domains: &mut [u64; 64])
+    ensures { λ r. ⌜ now (domains .exit) ≡ limitRule counts (rowOf number) (now (domains .entry)) ⌝ }
+{
+    let row = Row::of(number);
+    if 64 < counts.choices {
+        return;
+    }
+    if 24 < counts.slots {
+        return;
+    }
+    if counts.slots <= row.left as usize {
+        return;
+    }
+    narrow_each(counts, row, domains);
+}

@@ -1,0 +1,112 @@
+-- The figures as the code comes by them.
+use mathlib.Core.Path.{_≡_, refl, sym, _∙_, ap}
+use mathlib.Core.Bool.{Bool, true, false, _&&_, not, cond}
+use mathlib.Core.List.{List}
+use Prim.Native.Nat.{ℕ, zero, suc, _+_, _-_, _*_, _≤_, _<_}
+use native.Mathlib.Decide.{ℕ-discrete}
+use native.Mathlib.Numerals.{add-one}
+use native.Mathlib.Nat.{not-suc-le-zero}
+use native.Mathlib.Omega.{arith}
+use borrow.Author.Tests.{lt-ltb, le-ltb}
+use lib.Dec.{ltb}
+use lib.ListN.{length, getD, set}
+use Rattle.lists.specs.Below.{sumBelow}
+use Rattle.lists.proofs.Below.{sum-more}
+use Rattle.choice_sets.specs.Sets.{has, setOf, withChoice}
+use Rattle.choice_sets.proofs.SetLaws.{with-next, set-skip, set-none}
+use Rattle.weight_tables.specs.Tables.{written}
+use Rattle.weight_tables.proofs.TableLaws.{written-more}
+use Rattle.place_sets.specs.Domains.{settled}
+use Rattle.table_rule.specs.Figures.{freeOf, firstIn, settledIn, settledSum, lackOf}
+
+-- a set with one choice more, or as it was
+pub if-out : (set choice : ℕ) (inside : Bool) → inside ≡ false → set ≡ cond inside (withChoice set choice) set
+if-out set choice inside t = rw t
+
+pub if-in : (set choice result : ℕ) (inside : Bool) → inside ≡ true → result ≡ withChoice set choice → result ≡ cond inside (withChoice set choice) set
+if-in set choice result inside t e = rw t e
+
+pub set-step : (n : ℕ) (p : ℕ → Bool) (set result : ℕ) (inside : Bool) → n < 64 → set ≡ setOf n p → inside ≡ p n → result ≡ cond inside (withChoice set n) set → result ≡ setOf (n + 1) p
+set-step n p set result inside h s t r = r ∙ go inside t
+  where
+    go : (b : Bool) → b ≡ p n → cond b (withChoice set n) set ≡ setOf (n + 1) p
+    go true u = rw s (with-next n p h (sym u))
+    go false u = s ∙ sym (set-skip n p (sym u))
+
+pub set-start : (p : ℕ → Bool) → 0 ≡ setOf 0 p
+set-start p = sym (set-none p)
+
+-- the free choices, one more
+pub free-step : (domains : List ℕ) (n free result : ℕ) (is : Bool) → n < 64 → free ≡ freeOf n domains → is ≡ settled (getD domains n 0)
+    → result ≡ cond (not is) (withChoice free n) free → result ≡ freeOf (n + 1) domains
+unfolding freeOf
+free-step domains n free result is h f s r =
+    set-step n (λ choice. not (settled (getD domains choice 0))) free result (not is) h f (ap not s) r
+
+pub free-start : (domains : List ℕ) → 0 ≡ freeOf 0 domains
+unfolding freeOf
+free-start domains = set-start λ choice. not (settled (getD domains choice 0))
+
+-- the first of a set: none yet, and found
+pub first-start : (s : ℕ) → firstIn 0 s ≡ 0
+unfolding firstIn
+first-start s = refl
+
+pub first-step : (n s : ℕ) (b : Bool) → firstIn n s ≡ n → b ≡ has s n → b ≡ false → firstIn (n + 1) s ≡ n + 1
+unfolding firstIn
+first-step n s b e m t = rw (add-one n, e, le-ltb n n (omega arith), sym m, t)
+
+pub first-found : (n s : ℕ) (b : Bool) → firstIn n s ≡ n → b ≡ has s n → b ≡ true → (m : ℕ) → n < m → n ≡ firstIn m s
+unfolding firstIn
+first-found n s b e g t zero h = absurd (not-suc-le-zero h)
+first-found n s b e g t (suc m) h = go (ℕ-discrete n m) (first-found n s b e g t m)
+  where
+    go : Dec (n ≡ m) → (n < m → n ≡ firstIn m s) → n ≡ cond (ltb (firstIn m s) m) (firstIn m s) (cond (has s m) m (suc m))
+    go (yes q) ih =
+        let a : firstIn m s ≡ m = rw (sym q) e in
+        let c : has s m ≡ true = rw (sym q) (sym g ∙ t) in
+        rw (a, le-ltb m m (omega arith), c) q
+    go (no q) ih =
+        let a : n ≡ firstIn m s = ih (omega (arith, q)) in
+        let l : firstIn m s < m = omega (arith, a, q) in
+        rw (lt-ltb (firstIn m s) m l) a
+
+-- what one choice brings to a slot
+module _ (free stands : Bool) (most : ℕ) where
+  pub part-free : free ≡ true → 0 ≡ cond (not free && stands) most 0
+  part-free t = rw t
+
+  pub part-elsewhere : stands ≡ false → 0 ≡ cond (not free && stands) most 0
+  part-elsewhere t = rw t (go free)
+    where
+      go : (f : Bool) → 0 ≡ cond (not f && false) most 0
+      go true = refl
+      go false = refl
+
+  pub part-in : (result : ℕ) → free ≡ false → stands ≡ true → result ≡ most → result ≡ cond (not free && stands) most 0
+  part-in result f s e = rw (f, s) e
+
+-- the settled choices' maximums, one more
+pub settled-start : (maxs : List ℕ) (free : ℕ) (domains : List ℕ) (slot : ℕ) → 0 ≡ settledSum 0 maxs free domains slot
+unfolding settledSum sumBelow
+settled-start maxs free domains slot = refl
+
+pub settled-step : (maxs : List ℕ) (free : ℕ) (domains : List ℕ) (slot n sum part : ℕ) (f d : Bool) → sum ≡ settledSum n maxs free domains slot
+    → f ≡ has free n → d ≡ has (getD domains n 0) slot → part ≡ cond (not f && d) (getD maxs n 0) 0 → sum + part ≡ settledSum (n + 1) maxs free domains slot
+unfolding settledSum settledIn
+settled-step maxs free domains slot n sum part f d s a b p =
+    let term : ℕ → ℕ = λ choice. cond (not (has free choice) && has (getD domains choice 0) slot) (getD maxs choice 0) 0 in
+    let e : part ≡ term n = p ∙ ap (λ (x : Bool). cond (not x && d) (getD maxs n 0) 0) a ∙ ap (λ (x : Bool). cond (not (has free n) && x) (getD maxs n 0) 0) b in
+    ap (λ (x : ℕ). x + part) s ∙ ap (λ (x : ℕ). sumBelow n term + x) e ∙ sym (sum-more term n)
+
+-- the lacks, one more
+pub lacks-step : (choices choosers : ℕ) (maxs : List ℕ) (free : ℕ) (domains : List ℕ) (slot sum lack : ℕ) (before lacks : List ℕ)
+    → lacks ≡ written slot 0 (lackOf choices choosers maxs free domains) before → sum ≡ settledSum choices maxs free domains slot → lack ≡ choosers - sum
+    → set lacks slot lack ≡ written (slot + 1) 0 (lackOf choices choosers maxs free domains) before
+unfolding lackOf
+lacks-step choices choosers maxs free domains slot sum lack before lacks l s k =
+    let f : ℕ → ℕ = lackOf choices choosers maxs free domains in
+    let e : lack ≡ f slot = k ∙ ap (λ (x : ℕ). choosers - x) s in
+    let z : slot ≡ 0 + slot = omega arith in
+    ap (λ (x : List ℕ). set x slot lack) l ∙ ap (λ (x : ℕ). set (written slot 0 f before) slot x) e
+    ∙ ap (λ (x : ℕ). set (written slot 0 f before) x (f slot)) z ∙ written-more 0 f before slot

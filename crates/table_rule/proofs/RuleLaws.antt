@@ -1,0 +1,169 @@
+-- The rule as the code comes by it.
+use mathlib.Core.Path.{_≡_, refl, sym, _∙_, ap}
+use mathlib.Core.Bool.{Bool, true, false, _&&_, not, cond}
+use mathlib.Core.List.{List}
+use Prim.Native.Nat.{ℕ, zero, suc, _+_, _-_, _*_, _≤_, _<_}
+use native.Mathlib.Numerals.{add-one}
+use native.Mathlib.Omega.{arith}
+use borrow.Author.Tests.{lt-ltb, le-ltb, le-leb, lt-leb, eq-eqb, ne-eqb}
+use lib.Dec.{eqb, ltb, leb}
+use lib.ListN.{length, getD, set, replicate}
+use Rattle.lists.specs.Below.{sumBelow}
+use Rattle.lists.proofs.Below.{sum-more}
+use Rattle.constraint.specs.declared.check.Counts.{Counts}
+use Rattle.choice_sets.specs.Sets.{has, setOf}
+use Rattle.weight_tables.specs.Weights.{weightOf}
+use Rattle.weight_tables.specs.Tables.{tablesFit, written}
+use Rattle.place_sets.specs.Domains.{eachBelow}
+use Rattle.place_sets.proofs.DomainLaws.{each-at}
+use Rattle.table_rule.specs.Figures.{freeOf, firstIn, lackOf, lacksOf}
+use Rattle.table_rule.specs.Rule.{needOf, spareOf, slotKept, leftOf, tableRule, tablesBelow, fiveTables, tablesRule}
+
+-- a free choice's weight
+pub weight-none : (free : Bool) (x : ℕ) → free ≡ false → 0 ≡ cond free x 0
+weight-none free x t = rw t
+
+pub weight-some : (free : Bool) (x result : ℕ) → free ≡ true → result ≡ x → result ≡ cond free x 0
+weight-some free x result t e = rw t e
+
+-- what the free choices weigh, one more
+pub spare-start : (choosers : ℕ) (maxs : List ℕ) (table free : ℕ) → 0 ≡ spareOf 0 choosers maxs table free
+unfolding spareOf sumBelow
+spare-start choosers maxs table free = refl
+
+pub spare-step : (choosers : ℕ) (maxs : List ℕ) (table free n spare part : ℕ) (inside : Bool) → spare ≡ spareOf n choosers maxs table free → inside ≡ has free n
+    → part ≡ cond inside (weightOf choosers table (getD maxs n 0)) 0 → spare + part ≡ spareOf (n + 1) choosers maxs table free
+unfolding spareOf
+spare-step choosers maxs table free n spare part inside s i p =
+    let f : ℕ → ℕ = λ choice. cond (has free choice) (weightOf choosers table (getD maxs choice 0)) 0 in
+    ap (λ (x : ℕ). x + part) s ∙ ap (λ (x : ℕ). sumBelow n f + x) (p ∙ ap (λ (b : Bool). cond b (weightOf choosers table (getD maxs n 0)) 0) i) ∙ sym (sum-more f n)
+
+-- a choice that isn't free keeps its domain
+pub next-same : (free : Bool) (x domain : ℕ) → free ≡ false → domain ≡ cond free x domain
+next-same free x domain t = rw t
+
+module _ (entry : ℕ → ℕ → ℕ → ℕ) where
+  -- what the lacks weigh, one slot more
+  pub need-start : (table from : ℕ) (lacks : List ℕ) → 0 ≡ needOf entry 0 table from lacks
+  unfolding needOf sumBelow
+  need-start table from lacks = refl
+
+  pub need-step : (table from : ℕ) (lacks : List ℕ) (slot need part : ℕ) → need ≡ needOf entry slot table from lacks → part ≡ entry table from (getD lacks slot 0)
+      → need + part ≡ needOf entry (slot + 1) table from lacks
+  unfolding needOf
+  need-step table from lacks slot need part n p =
+      let f : ℕ → ℕ = λ s. entry table from (getD lacks s 0) in
+      ap (λ (x : ℕ). x + part) n ∙ ap (λ (x : ℕ). sumBelow slot f + x) p ∙ sym (sum-more f slot)
+
+  -- whether a slot stays
+  module _ (table from : ℕ) (lacks : List ℕ) (weight most need spare domain slot : ℕ) where
+    pub slot-lost : has domain slot ≡ false → false ≡ slotKept entry table from lacks weight most need spare domain slot
+    unfolding slotKept
+    slot-lost t = rw t
+
+    pub slot-asked : (less rest whole : ℕ) → has domain slot ≡ true → less ≡ getD lacks slot 0 - most → rest ≡ entry table from less → whole ≡ entry table from (getD lacks slot 0)
+        → leb (weight + rest + need) (spare + whole) ≡ slotKept entry table from lacks weight most need spare domain slot
+    unfolding slotKept
+    slot-asked less rest whole t l r w = rw (t, w, r, l)
+
+  -- what is left of a domain
+  module _ (slots table from : ℕ) (lacks : List ℕ) (weight most need spare domain : ℕ) where
+    pub left-all : weight + need ≤ spare → domain ≡ leftOf entry slots table from lacks weight most need spare domain
+    unfolding leftOf
+    left-all h = rw (le-leb _ _ h)
+
+    pub left-none : spare < weight + need → spare < need → 0 ≡ leftOf entry slots table from lacks weight most need spare domain
+    unfolding leftOf
+    left-none h n = rw (lt-leb _ _ h, lt-ltb _ _ n)
+
+    pub left-some : spare < weight + need → need ≤ spare
+        → setOf slots (slotKept entry table from lacks weight most need spare domain) ≡ leftOf entry slots table from lacks weight most need spare domain
+    unfolding leftOf
+    left-some h n = rw (lt-leb _ _ h, le-ltb _ _ n)
+
+  -- one choice's domain
+  pub next-left : (free : Bool) (slots choosers table from : ℕ) (lacks : List ℕ) (need spare most domain weight wide result : ℕ) → free ≡ true
+      → weight ≡ weightOf choosers table most → wide ≡ most → result ≡ leftOf entry slots table from lacks weight wide need spare domain
+      → result ≡ cond free (leftOf entry slots table from lacks (weightOf choosers table most) most need spare domain) domain
+  next-left free slots choosers table from lacks need spare most domain weight wide result t w m r =
+      r ∙ ap (λ (x : ℕ). leftOf entry slots table from lacks x wide need spare domain) w
+      ∙ ap (λ (x : ℕ). leftOf entry slots table from lacks (weightOf choosers table most) x need spare domain) m
+      ∙ sym (ap (λ (b : Bool). cond b (leftOf entry slots table from lacks (weightOf choosers table most) most need spare domain) domain) t)
+
+  -- the domains, one choice more
+  module _ (counts : Counts) (maxs : List ℕ) (table free from : ℕ) (lacks : List ℕ) where
+    pub once-start : (domains : List ℕ) → domains ≡ eachBelow 0 (tableRule entry counts maxs table free from lacks) domains
+    unfolding eachBelow
+    once-start domains = refl
+
+    pub once-step : (before domains : List ℕ) (n need spare result : ℕ) (inside : Bool) → domains ≡ eachBelow n (tableRule entry counts maxs table free from lacks) before
+        → n < length before → need ≡ needOf entry (counts .slots) table from lacks → spare ≡ spareOf (counts .choices) (counts .choosers) maxs table free
+        → inside ≡ has free n
+        → result ≡ cond inside (leftOf entry (counts .slots) table from lacks (weightOf (counts .choosers) table (getD maxs n 0)) (getD maxs n 0) need spare (getD domains n 0)) (getD domains n 0)
+        → set domains n result ≡ eachBelow (n + 1) (tableRule entry counts maxs table free from lacks) before
+    unfolding tableRule eachBelow
+    once-step before domains n need spare result inside d h q s i r =
+        let rule : ℕ → ℕ → ℕ = tableRule entry counts maxs table free from lacks in
+        let at : getD domains n 0 ≡ getD before n 0 =
+        ap (λ (x : List ℕ). getD x n 0) d ∙ each-at n rule before n (omega arith)
+        ∙ ap (λ (b : Bool). cond b (rule n (getD before n 0)) (getD before n 0)) (le-ltb n n (omega arith)) in
+        let w : ℕ = weightOf (counts .choosers) table (getD maxs n 0) in
+        let m : ℕ = getD maxs n 0 in
+        let e : result ≡ rule n (getD before n 0) =
+        r
+        ∙ ap (λ (x : ℕ). cond inside (leftOf entry (counts .slots) table from lacks w m need spare x) x) at
+        ∙ ap (λ (b : Bool). cond b (leftOf entry (counts .slots) table from lacks w m need spare (getD before n 0)) (getD before n 0)) i
+        ∙ ap (λ (x : ℕ). cond (has free n) (leftOf entry (counts .slots) table from lacks w m x spare (getD before n 0)) (getD before n 0)) q
+        ∙ ap (λ (x : ℕ). cond (has free n) (leftOf entry (counts .slots) table from lacks w m (needOf entry (counts .slots) table from lacks) x (getD before n 0)) (getD before n 0)) s in
+        rw add-one (ap (λ (x : List ℕ). set x n result) d ∙ ap (λ (x : ℕ). set (eachBelow n rule before) n x) e)
+
+    -- the tables, one more
+    pub each-start : (domains : List ℕ) → domains ≡ tablesBelow entry counts maxs free from lacks 0 domains
+    unfolding tablesBelow
+    each-start domains = refl
+
+  pub each-step : (counts : Counts) (maxs : List ℕ) (free from : ℕ) (lacks before domains after : List ℕ) (table : ℕ) → domains ≡ tablesBelow entry counts maxs free from lacks table before
+      → after ≡ eachBelow (counts .choices) (tableRule entry counts maxs table free from lacks) domains
+      → after ≡ tablesBelow entry counts maxs free from lacks (table + 1) before
+  unfolding tablesBelow
+  each-step counts maxs free from lacks before domains after table d a =
+      rw add-one (a ∙ ap (λ (x : List ℕ). eachBelow (counts .choices) (tableRule entry counts maxs table free from lacks) x) d)
+
+  -- the five tables by the figures
+  pub five-are : (counts : Counts) (maxs domains : List ℕ) (free from : ℕ) (none lacks after : List ℕ) → free ≡ freeOf (counts .choices) domains
+      → from ≡ firstIn (counts .choices) free → none ≡ replicate 24 0
+      → lacks ≡ written (counts .slots) 0 (lackOf (counts .choices) (counts .choosers) maxs free domains) none
+      → after ≡ tablesBelow entry counts maxs free from lacks 5 domains → after ≡ fiveTables entry counts maxs domains
+  unfolding fiveTables lacksOf
+  five-are counts maxs domains free from none lacks after f g n l a =
+      let free' : ℕ = freeOf (counts .choices) domains in
+      let from' : from ≡ firstIn (counts .choices) free' = g ∙ ap (λ (x : ℕ). firstIn (counts .choices) x) f in
+      let lacks' : lacks ≡ written (counts .slots) 0 (lackOf (counts .choices) (counts .choosers) maxs free' domains) (replicate 24 0) =
+      l ∙ ap (λ (x : List ℕ). written (counts .slots) 0 (lackOf (counts .choices) (counts .choosers) maxs free domains) x) n
+      ∙ ap (λ (x : ℕ). written (counts .slots) 0 (lackOf (counts .choices) (counts .choosers) maxs x domains) (replicate 24 0)) f in
+      a ∙ ap (λ (x : ℕ). tablesBelow entry counts maxs x from lacks 5 domains) f
+      ∙ ap (λ (x : ℕ). tablesBelow entry counts maxs free' x lacks 5 domains) from'
+      ∙ ap (λ (x : List ℕ). tablesBelow entry counts maxs free' (firstIn (counts .choices) free') x 5 domains) lacks'
+
+  -- the call
+  module _ (counts : Counts) (maxs domains : List ℕ) where
+    pub rule-many-choices : 64 < counts .choices → domains ≡ tablesRule entry counts maxs domains
+    unfolding tablesRule tablesFit
+    rule-many-choices h = rw (lt-leb _ _ h)
+
+    pub rule-many-choosers : counts .choices ≤ 64 → 200 < counts .choosers → domains ≡ tablesRule entry counts maxs domains
+    unfolding tablesRule tablesFit
+    rule-many-choosers c h = rw (le-leb _ _ c, lt-leb _ _ h)
+
+    pub rule-other-length : counts .choices ≤ 64 → counts .choosers ≤ 200 → (length maxs ≡ counts .choices → ⊥) → domains ≡ tablesRule entry counts maxs domains
+    unfolding tablesRule tablesFit
+    rule-other-length c h n = rw (le-leb _ _ c, le-leb _ _ h, ne-eqb _ _ n)
+
+    pub rule-many-slots : counts .choices ≤ 64 → counts .choosers ≤ 200 → length maxs ≡ counts .choices → 24 < counts .slots → domains ≡ tablesRule entry counts maxs domains
+    unfolding tablesRule tablesFit
+    rule-many-slots c h n s = rw (le-leb _ _ c, le-leb _ _ h, eq-eqb _ _ n, lt-leb _ _ s)
+
+    pub rule-fits : (after : List ℕ) → counts .choices ≤ 64 → counts .choosers ≤ 200 → length maxs ≡ counts .choices → counts .slots ≤ 24
+        → after ≡ fiveTables entry counts maxs domains → after ≡ tablesRule entry counts maxs domains
+    unfolding tablesRule tablesFit
+    rule-fits after c h n s e = rw (le-leb _ _ c, le-leb _ _ h, eq-eqb _ _ n, le-leb _ _ s) e

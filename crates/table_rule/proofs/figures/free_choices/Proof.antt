@@ -1,0 +1,77 @@
+-- The loop's invariant: the free choices of those passed.
+use Rattle.table_rule.specs.Figures.{freeOf}
+use Rattle.table_rule.proofs.FigureLaws.{free-start, free-step}
+use mathlib.Core.Path.{_≡_, refl, sym, _∙_}
+use Prim.Native.Nat.{_+_, _-_, _*_, _≤_}
+use native.Mathlib.Omega.{arith}
+use borrow.Author.Tests.{not-true, not-false}
+use borrow.Author.Needs.{needs}
+use Rattle.table_rule.proofs.figures.free_choices.Statement.{statement}
+use Rattle.table_rule.proofs.figures.free_choices.Tie as tie
+use Rattle.table_rule.proofs.figures.free_choices.Reads as reads
+use Rattle.table_rule.proofs.figures.free_choices.Lts as lts
+use Rattle.place_sets.proofs.places.is_settled.Reads as is-settled-reads
+use Rattle.table_rule.proofs.figures.with_if.Reads as with-if-reads
+
+abbrev Inv-loop : tie.InvT-loop
+Inv-loop choices domains free₀ choice₀ free choice =
+    (choice ≤ choices) × (free ≡ freeOf choice domains)
+
+abbrev μ-loop : tie.MeasureT-loop
+μ-loop choices domains free₀ choice₀ free choice =
+    choices - choice
+
+-- src/figures.rt:32:5
+loop-holds : tie.Need-loop-holds Inv-loop μ-loop
+loop-holds c =
+    (omega arith, free-start _)
+
+-- src/figures.rt:33:34
+mul-is-settled : tie.Need-mul-is-settled Inv-loop μ-loop
+mul-is-settled c = search needs
+
+-- src/figures.rt:33:34
+element-copy-out-is-settled : tie.Need-element-copy-out-is-settled Inv-loop μ-loop
+element-copy-out-is-settled c = search needs
+
+-- src/figures.rt:33:13
+is-settled-requires : tie.Need-is-settled-requires Inv-loop μ-loop
+is-settled-requires c κs = search needs
+
+-- src/figures.rt:34:9
+with-if-requires : tie.Need-with-if-requires Inv-loop μ-loop
+with-if-requires c κs = search needs
+
+-- src/figures.rt:35:9
+add-choice : tie.Need-add-choice Inv-loop μ-loop
+add-choice c = search needs
+
+-- src/figures.rt:32:5
+loop-less : tie.Need-loop-less Inv-loop μ-loop
+loop-less c = search needs
+
+-- src/figures.rt:32:5
+loop-again : tie.Need-loop-again Inv-loop μ-loop
+loop-again c =
+    (omega (arith, c .before .before .before .loop-test .taken), free-step _ _ _ _ _ (omega (arith, c .before .before .before .loop-test .taken, c .before .before .before .before .before .pre)) (c .before .before .before .before .loop .inv .1) (c .before .is-settled .ensures) (c .with-if .ensures))
+
+-- src/figures.rt:26:1
+returns : tie.Need-returns Inv-loop μ-loop
+returns c =
+    let e : c .before .loop .choice ≡ c .before .before .args .choices = omega (arith, c .loop-test .left, c .before .loop .inv .0) in rw e at (c .before .loop .inv .1)
+
+pub free-choices-spec : {M : Type 1} → statement M
+free-choices-spec =
+    tie.close
+    (tie.spec
+    Inv-loop
+    μ-loop
+    loop-holds
+    mul-is-settled
+    element-copy-out-is-settled
+    is-settled-requires
+    with-if-requires
+    add-choice
+    loop-less
+    loop-again
+    returns)

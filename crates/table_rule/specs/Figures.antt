@@ -1,0 +1,35 @@
+-- What the weight tables are asked about: which choices are free, the first of them, and what each slot still lacks.
+use mathlib.Core.Bool.{Bool, _&&_, not, cond}
+use mathlib.Core.List.{List}
+use Prim.Native.Nat.{ℕ, zero, suc, _-_}
+use lib.Dec.{ltb}
+use lib.ListN.{getD, replicate}
+use Rattle.lists.specs.Below.{sumBelow}
+use Rattle.choice_sets.specs.Sets.{has, setOf}
+use Rattle.weight_tables.specs.Tables.{written}
+use Rattle.place_sets.specs.Domains.{settled}
+
+-- the choices that have two places or more
+unfoldable pub freeOf : ℕ → List ℕ → ℕ
+freeOf choices domains = setOf choices λ choice. not (settled (getD domains choice 0))
+
+-- the first choice of a set, or the number of choices if it has none
+unfoldable pub firstIn : ℕ → ℕ → ℕ
+firstIn zero set = 0
+firstIn (suc n) set = cond (ltb (firstIn n set) n) (firstIn n set) (cond (has set n) n (suc n))
+
+-- a choice that isn't free and may stand in the slot: that is its one place
+unfoldable pub settledIn : ℕ → List ℕ → ℕ → ℕ → Bool
+settledIn free domains slot choice = not (has free choice) && has (getD domains choice 0) slot
+
+-- the maximums that the settled choices bring to a slot
+unfoldable pub settledSum : ℕ → List ℕ → ℕ → List ℕ → ℕ → ℕ
+settledSum choices maxs free domains slot = sumBelow choices λ choice. cond (settledIn free domains slot choice) (getD maxs choice 0) 0
+
+-- what a slot lacks
+unfoldable pub lackOf : ℕ → ℕ → List ℕ → ℕ → List ℕ → ℕ → ℕ
+lackOf choices choosers maxs free domains slot = choosers - settledSum choices maxs free domains slot
+
+-- what each slot lacks, one after the other
+unfoldable pub lacksOf : ℕ → ℕ → ℕ → List ℕ → ℕ → List ℕ → List ℕ
+lacksOf slots choices choosers maxs free domains = written slots 0 (lackOf choices choosers maxs free domains) (replicate 24 0)

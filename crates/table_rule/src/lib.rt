@@ -1,0 +1,4 @@
+// What the weight tables leave of the domains.
+
+pub mod figures;
+pub mod rule;

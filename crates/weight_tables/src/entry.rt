@@ -1,0 +1,31 @@
+// An entry of the tables as it is read.
+use super::weight::wide_word;
+ghost use mathlib.Core.Path.{_≡_};
+ghost use Prim.Native.Nat.{_-_, _≤_};
+ghost use Rattle.weight_tables.specs.Tables.{entryAt};
+
+// The entry for a table, a first choice and a lack: 0 past the tables' shape.
+pub fn least_at(tables: &[u16; 65325], table: usize, from: usize, lack: usize) -> usize
+    ensures { λ r. ⌜ (r ≡ entryAt (now (tables .entry)) table from lack) × (r ≤ 65535) ⌝ }
+{
+    if 5 <= table {
+        return 0;
+    }
+    if 65 <= from {
+        return 0;
+    }
+    if 201 <= lack {
+        return 0;
+    }
+    wide_word(tables[(table * 65 + from) * 201 + lack])
+}
+
+// What is left of a number, 0 at least.
+pub fn less(number: usize, taken: usize) -> usize
+    ensures { λ r. ⌜ r ≡ number - taken ⌝ }
+{
+    if number <= taken {
+        return 0;
+    }
+    number - taken
+}
