@@ -1,4 +1,4 @@
-// Replays listings whose answers a brute force gave: totals, nodes, every page of several sizes, and budgets around the node count.
+// Replays listings whose answers a brute force gave: totals, nodes, every page of several sizes, and budgets around the node count. Each page is asked of both calls, of the listing and of the walk.
 use cases::BLANK;
 use cases::Next;
 use cases::Tally;
@@ -16,6 +16,8 @@ use cases::word;
 use constraint::check::Counts;
 use listing::list_plans::Listed;
 use listing::list_plans::list_plans;
+use page_answers::page::Paged;
+use plan_walk::page::list_page;
 ghost use mathlib.Core.Path.{_≡_};
 ghost use lib.ListN.{length};
 
@@ -87,6 +89,30 @@ fn on_page(total: u64, first: u64, room: u64) -> u64 {
     room
 }
 
+// Whether the plans written are the page from the first number on, and the buffer holds them and nothing else.
+fn is_written(
+    written: u64,
+    expected: Expected,
+    choices: usize,
+    first: u64,
+    room: u64,
+    bytes: &[u8],
+    buffer: &[u8],
+) -> bool {
+    if written != on_page(expected.total, first, room) {
+        return false;
+    }
+    let size = times(written, choices);
+    let at = plus(
+        expected.plans,
+        times(on_page(expected.total, 0, first), choices),
+    );
+    if !same(buffer, 0, bytes, at, size) {
+        return false;
+    }
+    is_filled(buffer, size, BLANK)
+}
+
 // Whether an answer and the buffer are the page from the first number on.
 fn is_page(
     listed: Listed,
@@ -105,28 +131,65 @@ fn is_page(
     else {
         return false;
     };
-    if written != on_page(expected.total, first, room) {
-        return false;
-    }
     if total != expected.total {
         return false;
     }
     if nodes != expected.nodes {
         return false;
     }
-    let size = times(written, choices);
-    let at = plus(
-        expected.plans,
-        times(on_page(expected.total, 0, first), choices),
-    );
-    if !same(buffer, 0, bytes, at, size) {
-        return false;
-    }
-    is_filled(buffer, size, BLANK)
+    is_written(written, expected, choices, first, room, bytes, buffer)
 }
 
-// One page in what is lent for it.
-fn lent_page(
+// The plans that a walk meets before it stops: those up to the one after the page, or all where room 0 asks for the total alone.
+fn plans_met(total: u64, first: u64, room: u64) -> u64 {
+    if room == 0 {
+        return total;
+    }
+    let last = std::num::wrapping_add_u64(first, room);
+    if total <= last {
+        return total;
+    }
+    std::num::wrapping_add_u64(last, 1)
+}
+
+// Whether the list ends before a plan comes after the page.
+fn ends(total: u64, first: u64, room: u64) -> bool {
+    if room == 0 {
+        return true;
+    }
+    total <= std::num::wrapping_add_u64(first, room)
+}
+
+// Whether a walk's answer and the buffer are the page: with the total where the list ends, else with the plans met.
+fn is_walked(
+    paged: Paged,
+    expected: Expected,
+    choices: usize,
+    first: u64,
+    room: u64,
+    bytes: &[u8],
+    buffer: &[u8],
+) -> bool {
+    let end = ends(expected.total, first, room);
+    let most = plans_met(expected.total, first, room);
+    match paged {
+        Paged::Ended { written, total } => {
+            end
+                && total == most
+                && is_written(written, expected, choices, first, room, bytes, buffer)
+        }
+        Paged::GoesOn { written, met } => {
+            !end
+                && met == most
+                && is_written(written, expected, choices, first, room, bytes, buffer)
+        }
+        Paged::Turns { .. } => false,
+        Paged::Refused(_) => false,
+    }
+}
+
+// One page of the listing in what is lent for it.
+fn listed_page(
     counts: Counts,
     mins: &[u16],
     maxs: &[u16],
@@ -152,6 +215,79 @@ fn lent_page(
         lent,
     );
     is_page(listed, expected, counts.choices, first, room, bytes, lent)
+}
+
+// The same page of the walk: a budget that is enough for the listing is enough for it.
+fn walked_page(
+    counts: Counts,
+    mins: &[u16],
+    maxs: &[u16],
+    optional: &[u8],
+    rows: &[u64],
+    expected: Expected,
+    first: u64,
+    room: u64,
+    budget: u64,
+    bytes: &[u8],
+    lent: &mut [u8],
+) -> bool {
+    fill(lent, BLANK);
+    let paged = list_page(
+        counts,
+        mins,
+        maxs,
+        optional,
+        rows,
+        first,
+        room,
+        budget,
+        lent,
+    );
+    is_walked(paged, expected, counts.choices, first, room, bytes, lent)
+}
+
+// One page of both calls in what is lent for it.
+fn lent_page(
+    counts: Counts,
+    mins: &[u16],
+    maxs: &[u16],
+    optional: &[u8],
+    rows: &[u64],
+    expected: Expected,
+    first: u64,
+    room: u64,
+    budget: u64,
+    bytes: &[u8],
+    lent: &mut [u8],
+) -> bool {
+    if !listed_page(
+        counts,
+        mins,
+        maxs,
+        optional,
+        rows,
+        expected,
+        first,
+        room,
+        budget,
+        bytes,
+        lent,
+    ) {
+        return false;
+    }
+    walked_page(
+        counts,
+        mins,
+        maxs,
+        optional,
+        rows,
+        expected,
+        first,
+        room,
+        budget,
+        bytes,
+        lent,
+    )
 }
 
 // One page, with a budget that is enough.
@@ -417,7 +553,68 @@ fn budgets_agree(
     )
 }
 
-// Every page of several sizes, and budgets one below, at and one above the nodes.
+// 01's number of the listing's refusal; 0 where it answers otherwise.
+fn listing_refuses(listed: Listed) -> u8 {
+    let Listed::Refused(why) = listed else {
+        return 0;
+    };
+    why.number()
+}
+
+// 01's number of the walk's refusal; 0 where it answers otherwise.
+fn walk_refuses(paged: Paged) -> u8 {
+    let Paged::Refused(why) = paged else {
+        return 0;
+    };
+    why.number()
+}
+
+// Whether both calls refuse with this number, and leave the buffer untouched.
+fn refused_alike(
+    counts: Counts,
+    mins: &[u16],
+    maxs: &[u16],
+    optional: &[u8],
+    rows: &[u64],
+    room: u64,
+    why: u8,
+    buffer: &mut [u8],
+) -> bool {
+    fill(buffer, BLANK);
+    let most = 0xffff_ffff_ffff_ffff;
+    let listed = list_plans(counts, mins, maxs, optional, rows, 0, room, most, buffer);
+    if listing_refuses(listed) != why {
+        return false;
+    }
+    let paged = list_page(counts, mins, maxs, optional, rows, 0, room, most, buffer);
+    if walk_refuses(paged) != why {
+        return false;
+    }
+    is_filled(buffer, 0, BLANK)
+}
+
+// 25 slots are one too many, and room for no plan is less than the buffer has.
+fn refusals_agree(
+    counts: Counts,
+    mins: &[u16],
+    maxs: &[u16],
+    optional: &[u8],
+    rows: &[u64],
+    buffer: &mut [u8],
+) -> bool {
+    let many_slots = Counts {
+        choices: counts.choices,
+        slots: 25,
+        choosers: counts.choosers,
+        rows: counts.rows,
+    };
+    if !refused_alike(many_slots, mins, maxs, optional, rows, 0, 1, buffer) {
+        return false;
+    }
+    refused_alike(counts, mins, maxs, optional, rows, 0, 2, buffer)
+}
+
+// Every page of several sizes, budgets one below, at and one above the nodes, and what is refused.
 fn day_agrees(
     counts: Counts,
     mins: &[u16],
@@ -432,6 +629,9 @@ fn day_agrees(
         return false;
     }
     if !budgets_agree(counts, mins, maxs, optional, rows, expected, bytes, buffer) {
+        return false;
+    }
+    if !refusals_agree(counts, mins, maxs, optional, rows, buffer) {
         return false;
     }
     turns_agree(counts, mins, maxs, optional, rows, expected, buffer)

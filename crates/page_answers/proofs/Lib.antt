@@ -1,0 +1,2 @@
+-- The proofs of the page's end and of what it tells.
+pub mod EndLaws

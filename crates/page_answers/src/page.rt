@@ -1,0 +1,45 @@
+// The page's end against the list's end: a page that is full says so only once the plan after it is met.
+use constraint::refusal::Refusal;
+use listing_starts::page::written_of;
+ghost use mathlib.Core.Path.{_≡_};
+ghost use Rattle.constraint.specs.Told.{done};
+ghost use Rattle.alive_starts.specs.Run.{goesOn};
+ghost use Rattle.page_answers.specs.Page.{toldOf, pagedTells};
+
+// What the call answers: the plans written, with the total where no plan comes after the page, else with the plans met until the walk stopped; or why it is refused.
+pub enum Paged {
+    Ended { written: u64, total: u64 },
+    GoesOn { written: u64, met: u64 },
+    Turns { written: u64, met: u64 },
+    Refused(Refusal),
+}
+
+// Whether the plan after the page hasn't been met yet; room 0 asks for the total alone.
+pub fn goes_on(first: u64, room: u64, met: u64) -> bool
+    ensures { λ r. ⌜ r ≡ goesOn first room met ⌝ }
+{
+    if room == 0 {
+        return true;
+    }
+    if met <= first {
+        return true;
+    }
+    met - first <= room
+}
+
+// What the walk's end tells: the list ended, or the page is over, or turns ran out.
+pub fn told(first: u64, room: u64, going: bool, met: u64) -> Paged
+    ensures { λ r. ⌜ pagedTells r ≡ done (toldOf first room going met) ⌝ }
+{
+    let written = written_of(first, room, met);
+    if going {
+        return Paged::Ended {
+            written,
+            total: met,
+        };
+    }
+    if goes_on(first, room, met) {
+        return Paged::Turns { written, met };
+    }
+    Paged::GoesOn { written, met }
+}

@@ -1,0 +1,2 @@
+-- The proofs of the walk and of the call.
+pub mod PageTells

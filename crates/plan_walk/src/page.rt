@@ -1,0 +1,161 @@
+// A page of a day's plans: the public call, beside request 03's listing.
+use super::walk::walk_choice;
+use constraint::check::Checked;
+use constraint::check::Counts;
+use listing_nodes::judge::judge;
+use listing_nodes::nodes::no_sums;
+use listing_starts::full::no_plan;
+use listing_starts::full::numbers_asked;
+use page_answers::page::Paged;
+use page_answers::page::told;
+use place_sets::places::first_domain;
+use weight_tables::fill::fill_tables;
+ghost use mathlib.Core.Path.{_≡_};
+ghost use mathlib.Core.Bool.{true};
+ghost use mathlib.Core.List.{List, []};
+ghost use Prim.Native.Nat.{ℕ, _+_, _≤_, _<_, _^_};
+ghost use lib.ListN.{length, getD, replicate};
+ghost use Rattle.constraint.specs.Told.{good};
+ghost use Rattle.scheduling.specs.Day.{dayOf};
+ghost use Rattle.listing_nodes.specs.Judge.{judgeOf};
+ghost use Rattle.listing_nodes.specs.steps.Walk.{countsOf};
+ghost use Rattle.listing_nodes.specs.steps.Runs.{Judged};
+ghost use Rattle.alive_starts.specs.Run.{standing, run, goesOn};
+ghost use Rattle.place_sets.specs.Domains.{firstDomain};
+ghost use Rattle.walk_steps.specs.Sight.{eventsFrom};
+ghost use Rattle.page_answers.specs.Page.{pagedTells};
+ghost use Rattle.plan_walk.specs.Page.{Fits};
+
+// Room for the tables of weights.
+fn no_tables() -> [u16; 65_325]
+    ensures { λ r. ⌜ length r ≡ 65325 ⌝ }
+{
+    [0u16; 65_325]
+}
+
+// No place for any of 64 choices.
+fn no_domains() -> [u64; 64]
+    ensures { λ r. ⌜ length r ≡ 64 ⌝ }
+{
+    [0u64; 64]
+}
+
+// Each choice's places before anything is decided.
+fn first_domains(slots: usize, optional: &[u8]) -> [u64; 64]
+    requires { ⌜ length (now optional) ≤ 64 ⌝ }
+    ensures { λ r. ⌜ (length r ≡ 64) × ((choice : ℕ) → choice < length (now (optional .entry)) → getD r choice 0 ≡ firstDomain slots (getD (now (optional .entry)) choice 0)) ⌝ }
+{
+    let mut domains = no_domains();
+    let mut choice = 0;
+    while choice < optional.len() {
+        domains[choice] = first_domain(slots, optional[choice]);
+        choice += 1;
+    }
+    domains
+}
+
+// The walk from the empty start, with these turns.
+fn walk_all(
+    asked: &[usize; 6],
+    mins: &[u16],
+    maxs: &[u16],
+    optional: &[u8],
+    rows: &[u64],
+    tables: &[u16; 65_325],
+    domains: &[u64; 64],
+    turns: &mut u64,
+    met: &mut u64,
+    buffer: &mut [u8],
+) -> bool
+    requires { ⌜ Judged (dayOf (countsOf (now asked)) (now mins) (now maxs) (now optional) (now rows)) (getD (now asked) 5 0) (now buffer) × (now met + now turns < 2 ^ 64) × (goesOn (getD (now asked) 4 0) (getD (now asked) 5 0) (now met) ≡ true) ⌝ }
+    ensures { λ r. ⌜ standing r (now (turns .exit)) (now (met .exit)) (now (buffer .exit)) ≡ run (getD (now (asked .entry)) 4 0) (getD (now (asked .entry)) 5 0) (standing true (now (turns .entry)) (now (met .entry)) (now (buffer .entry))) (eventsFrom (dayOf (countsOf (now (asked .entry))) (now (mins .entry)) (now (maxs .entry)) (now (optional .entry)) (now (rows .entry))) (now (tables .entry)) (getD (now (asked .entry)) 0 0) [] (replicate 24 0) (replicate 24 0) (now (domains .entry))) ⌝ }
+{
+    let choices = mins.len();
+    let mut plan = no_plan();
+    let mut places = &mut plan[..choices];
+    let mut sums = no_sums();
+    let mut fills = no_sums();
+    walk_choice(
+        asked,
+        &mins,
+        &maxs,
+        &optional,
+        &rows,
+        tables,
+        domains,
+        0,
+        &mut places,
+        &mut sums,
+        &mut fills,
+        turns,
+        met,
+        buffer,
+    )
+}
+
+// A day that is not refused: its tables and first domains, and the walk.
+fn page_of_day(
+    counts: Counts,
+    mins: &[u16],
+    maxs: &[u16],
+    optional: &[u8],
+    rows: &[u64],
+    first: u64,
+    room: u64,
+    budget: u64,
+    buffer: &mut [u8],
+) -> Paged
+    requires { ⌜ Judged (dayOf counts (now mins) (now maxs) (now optional) (now rows)) room (now buffer) ⌝ }
+    ensures { λ r. ⌜ (judgeOf (dayOf counts (now (mins .entry)) (now (maxs .entry)) (now (optional .entry)) (now (rows .entry))) room (length (now (buffer .entry))) ≡ good → Fits (dayOf counts (now (mins .entry)) (now (maxs .entry)) (now (optional .entry)) (now (rows .entry))) first room budget (now (buffer .entry)) (pagedTells r) (now (buffer .exit))) ⌝ }
+{
+    let mut tables = no_tables();
+    fill_tables(counts, maxs, &mut tables);
+    let domains = first_domains(counts.slots, optional);
+    let asked = numbers_asked(counts, first, room);
+    let mut turns = budget;
+    let mut met = 0;
+    let going = walk_all(
+        &asked,
+        mins,
+        maxs,
+        optional,
+        rows,
+        &tables,
+        &domains,
+        &mut turns,
+        &mut met,
+        buffer,
+    );
+    told(first, room, going, met)
+}
+
+// The plans of a day from the first number on, as many as there is room for, and whether the list goes on; room 0 asks for the total alone.
+pub fn list_page(
+    counts: Counts,
+    mins: &[u16],
+    maxs: &[u16],
+    optional: &[u8],
+    rows: &[u64],
+    first: u64,
+    room: u64,
+    budget: u64,
+    buffer: &mut [u8],
+) -> Paged
+    ensures { λ r. ⌜ Fits (dayOf counts (now (mins .entry)) (now (maxs .entry)) (now (optional .entry)) (now (rows .entry))) first room budget (now (buffer .entry)) (pagedTells r) (now (buffer .exit)) ⌝ }
+{
+    let judged = judge(counts, mins, maxs, optional, rows, room, buffer.len());
+    if let Checked::Refused(why) = judged {
+        return Paged::Refused(why);
+    }
+    page_of_day(
+        counts,
+        mins,
+        maxs,
+        optional,
+        rows,
+        first,
+        room,
+        budget,
+        buffer,
+    )
+}

@@ -1,0 +1,202 @@
+// The walk itself, in 01's form for the listing. A slice is copied at each call, a reference to it isn't; the buffer alone can't be had behind one.
+use super::places::leave_place;
+use super::places::near_end;
+use super::places::next_in;
+use super::places::take_place;
+use listing_starts::full::CHOOSERS;
+use listing_starts::full::SLOTS;
+use listing_starts::full::list_plan;
+use listing_starts::places::place_at;
+use look_ahead::look::is_worth;
+use look_ahead::look::look_ahead;
+ghost use mathlib.Core.Path.{_≡_};
+ghost use mathlib.Core.Bool.{true};
+ghost use Prim.Native.Nat.{_+_, _-_};
+ghost use lib.ListN.{length, getD, take};
+ghost use Rattle.scheduling.specs.Day.{dayOf};
+ghost use Rattle.listing_nodes.specs.steps.Walk.{countsOf};
+ghost use Rattle.alive_starts.specs.Run.{standing, goesOn};
+ghost use Rattle.walk_steps.specs.Sight.{eventsFrom, eventsLeft};
+ghost use Rattle.walk_steps.specs.Walks.{Ready, Walked, Takes};
+
+// Whether the plan after the page hasn't been met yet, by the numbers asked.
+fn goes_on(asked: &[usize; 6], met: u64) -> bool
+    ensures { λ r. ⌜ r ≡ goesOn (getD (now (asked .entry)) 4 0) (getD (now (asked .entry)) 5 0) met ⌝ }
+{
+    page_answers::page::goes_on(asked[4] as u64, asked[5] as u64, met)
+}
+
+// 'one function per choice': a start takes a turn; if it is worth it, its choice takes the places that its domain has.
+pub(crate) fn walk_choice(
+    asked: &[usize; 6],
+    mins: &&[u16],
+    maxs: &&[u16],
+    optional: &&[u8],
+    rows: &&[u64],
+    tables: &[u16; 65_325],
+    domains: &[u64; 64],
+    choice: usize,
+    plan: &mut &mut [u8],
+    sums: &mut [usize; 24],
+    fills: &mut [usize; 24],
+    turns: &mut u64,
+    met: &mut u64,
+    buffer: &mut [u8],
+) -> bool
+    requires { ⌜ Ready (dayOf (countsOf (now asked)) (now (now mins)) (now (now maxs)) (now (now optional)) (now (now rows))) (getD (now asked) 4 0) (getD (now asked) 5 0) choice choice (now (now plan)) (now sums) (now fills) (now turns) (now met) (now buffer) ⌝ }
+    ensures { λ r. ⌜ Walked (getD (now (asked .entry)) 4 0) (getD (now (asked .entry)) 5 0) choice (eventsFrom (dayOf (countsOf (now (asked .entry))) (now (now (mins .entry))) (now (now (maxs .entry))) (now (now (optional .entry))) (now (now (rows .entry)))) (now (tables .entry)) (length (now (now (plan .entry))) - choice) (take choice (now (now (plan .entry)))) (now (sums .entry)) (now (fills .entry)) (now (domains .entry))) (now (now (plan .entry))) (now (now (plan .exit))) (now (sums .entry)) (now (sums .exit)) (now (fills .entry)) (now (fills .exit)) (standing true (now (turns .entry)) (now (met .entry)) (now (buffer .entry))) (standing r (now (turns .exit)) (now (met .exit)) (now (buffer .exit))) ⌝ }
+{
+    if *turns == 0 {
+        return false;
+    }
+    *turns -= 1;
+    if !is_worth(asked, tables, choice, fills) {
+        return true;
+    }
+    if choice == plan.len() {
+        list_plan(asked, *mins, *maxs, *optional, *rows, *plan, met, buffer);
+        return goes_on(asked, *met);
+    }
+    let slots = asked[SLOTS];
+    let choosers = asked[CHOOSERS];
+    if near_end(plan.len(), choice) {
+        let left = next_in(
+            slots,
+            choosers,
+            mins,
+            optional,
+            choice,
+            domains[choice],
+            slots + 1,
+            sums,
+        );
+        if left == 0 {
+            return true;
+        }
+        return walk_place(
+            asked,
+            mins,
+            maxs,
+            optional,
+            rows,
+            tables,
+            domains,
+            choice,
+            left,
+            plan,
+            sums,
+            fills,
+            turns,
+            met,
+            buffer,
+        );
+    }
+    let seen = look_ahead(asked, *mins, *maxs, *rows, tables, choice, *plan, domains);
+    let left = next_in(
+        slots,
+        choosers,
+        mins,
+        optional,
+        choice,
+        seen[choice],
+        slots + 1,
+        sums,
+    );
+    if left == 0 {
+        return true;
+    }
+    walk_place(
+        asked,
+        mins,
+        maxs,
+        optional,
+        rows,
+        tables,
+        &seen,
+        choice,
+        left,
+        plan,
+        sums,
+        fills,
+        turns,
+        met,
+        buffer,
+    )
+}
+
+// 'one per place': the choice stands there while the walk goes on to the next choice; then it takes the next place that it may.
+fn walk_place(
+    asked: &[usize; 6],
+    mins: &&[u16],
+    maxs: &&[u16],
+    optional: &&[u8],
+    rows: &&[u64],
+    tables: &[u16; 65_325],
+    domains: &[u64; 64],
+    choice: usize,
+    left: usize,
+    plan: &mut &mut [u8],
+    sums: &mut [usize; 24],
+    fills: &mut [usize; 24],
+    turns: &mut u64,
+    met: &mut u64,
+    buffer: &mut [u8],
+) -> bool
+    requires { ⌜ Ready (dayOf (countsOf (now asked)) (now (now mins)) (now (now maxs)) (now (now optional)) (now (now rows))) (getD (now asked) 4 0) (getD (now asked) 5 0) (choice + 1) choice (now (now plan)) (now sums) (now fills) (now turns) (now met) (now buffer) × Takes (dayOf (countsOf (now asked)) (now (now mins)) (now (now maxs)) (now (now optional)) (now (now rows))) choice left (now sums) (now domains) ⌝ }
+    ensures { λ r. ⌜ Walked (getD (now (asked .entry)) 4 0) (getD (now (asked .entry)) 5 0) choice (eventsLeft (dayOf (countsOf (now (asked .entry))) (now (now (mins .entry))) (now (now (maxs .entry))) (now (now (optional .entry))) (now (now (rows .entry)))) (now (tables .entry)) (length (now (now (plan .entry))) - (choice + 1)) (take choice (now (now (plan .entry)))) (now (sums .entry)) (now (fills .entry)) (now (domains .entry)) left) (now (now (plan .entry))) (now (now (plan .exit))) (now (sums .entry)) (now (sums .exit)) (now (fills .entry)) (now (fills .exit)) (standing true (now (turns .entry)) (now (met .entry)) (now (buffer .entry))) (standing r (now (turns .exit)) (now (met .exit)) (now (buffer .exit))) ⌝ }
+{
+    let slots = asked[SLOTS];
+    let place = place_at(slots, left);
+    take_place(slots, mins, maxs, choice, place, plan, sums, fills);
+    let going = walk_choice(
+        asked,
+        mins,
+        maxs,
+        optional,
+        rows,
+        tables,
+        domains,
+        choice + 1,
+        plan,
+        sums,
+        fills,
+        turns,
+        met,
+        buffer,
+    );
+    leave_place(slots, mins, maxs, choice, place, sums, fills);
+    if !going {
+        return false;
+    }
+    let choosers = asked[CHOOSERS];
+    let next = next_in(
+        slots,
+        choosers,
+        mins,
+        optional,
+        choice,
+        domains[choice],
+        left - 1,
+        sums,
+    );
+    if next == 0 {
+        return true;
+    }
+    walk_place(
+        asked,
+        mins,
+        maxs,
+        optional,
+        rows,
+        tables,
+        domains,
+        choice,
+        next,
+        plan,
+        sums,
+        fills,
+        turns,
+        met,
+        buffer,
+    )
+}

@@ -1,0 +1,58 @@
+-- The walk from the empty start.
+use mathlib.Core.Path.{_≡_, refl, sym, ap, _∙_}
+use mathlib.Core.Bool.{true}
+use mathlib.Core.List.{List, []}
+use Prim.Native.Nat.{ℕ, _+_, _-_, _*_, _≤_, _<_, _^_}
+use native.Mathlib.Nat.{sub-zero}
+use native.Mathlib.Omega.{arith}
+use lib.ListN.{length, getD, take, replicate, length-replicate}
+use Rattle.scheduling.specs.Day.{Day}
+use Rattle.listing_nodes.specs.steps.Runs.{Judged}
+use Rattle.listing_nodes.proofs.WholeLaws.{zeros-at}
+use Rattle.alive_starts.specs.Run.{Standing, run, goesOn}
+use Rattle.walk_steps.specs.Sight.{eventsFrom}
+use Rattle.walk_steps.specs.Walks.{Ready, Walked}
+
+module _ (day : Day) (first room : ℕ) (buffer : List ℕ) (j : Judged day room buffer) (plan sums fills : List ℕ) (p : length plan ≡ day .counts .choices)
+    (e : sums ≡ replicate 24 0) (f : fills ≡ replicate 24 0) where
+  -- it starts with no choice placed and all sums 0
+  pub all-requires : {turns met : ℕ} → met + turns < 2 ^ 64 → goesOn first room met ≡ true → Ready day first room 0 0 plan sums fills turns met buffer
+  all-requires n o =
+      record {
+        shaped =
+            record {
+              few-choices = j .few-choices;
+              few-slots = j .few-slots;
+              mins-fit = j .mins-fit;
+              maxs-fit = j .maxs-fit;
+              optional-fits = j .optional-fits;
+              plan-fits = p;
+              buffer-fits = j .buffer-fits;
+            };
+        walks =
+            record {
+              few-choices = omega (arith, j .few-choices, j .mins-fit);
+              few-slots = j .few-slots;
+              few-choosers = j .few-choosers;
+              flags = j .optional-fits ∙ sym (j .mins-fit);
+              within = omega arith;
+              entries = ap length e ∙ length-replicate {A = ℕ} 24 0;
+              low = λ slot. rw e (rw (zeros-at 24 slot) (omega arith));
+            };
+        filled =
+            record {
+              entries = ap length f ∙ length-replicate {A = ℕ} 24 0;
+              low = λ slot. rw f (rw (zeros-at 24 slot) (omega arith));
+            };
+        unfinished = o;
+        numbers = n;
+      }
+
+  -- and stands at last where all its events lead
+  pub all-answers : (tables domains : List ℕ) {plan' sums' fills' : List ℕ} {before after : Standing}
+      → Walked first room 0 (eventsFrom day tables (length plan - 0) (take 0 plan) sums fills domains) plan plan' sums sums' fills fills' before after
+      → after ≡ run first room before (eventsFrom day tables (day .counts .choices) [] (replicate 24 0) (replicate 24 0) domains)
+  all-answers tables domains {before = before} g =
+      g .stands
+      ∙ ap (λ (i : ℕ). run first room before (eventsFrom day tables i [] sums fills domains)) (sub-zero (length plan) ∙ p)
+      ∙ rw (e, f)

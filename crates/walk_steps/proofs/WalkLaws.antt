@@ -1,0 +1,494 @@
+-- The walk: a law for each way through its functions.
+use mathlib.Core.Path.{_≡_, refl, sym, ap, _∙_}
+use mathlib.Core.Bool.{Bool, true, false, _&&_, cond}
+use mathlib.Core.List.{List, [], _∷_, _++_, append-nil, map, flatMap}
+use Prim.Native.Nat.{ℕ, zero, suc, _+_, _-_, _*_, _≤_, _<_, _^_}
+use native.Mathlib.Nat.{pos-of-ne-zero}
+use native.Mathlib.Numerals.{add-one}
+use native.Mathlib.Omega.{arith}
+use borrow.Author.Tests.{lt-ltb, le-ltb, ltb-true}
+use lib.Arith.{lt-of-le-ne}
+use lib.Dec.{ltb}
+use lib.ListN.{length, getD, set, take, length-set}
+use native.Mathlib.Decide.{ℕ-discrete}
+use lib.Seq.{take-length, length-take-le, getD-set-same, getD-set-other, set-set, set-getD}
+use Rattle.choice_sets.specs.Sets.{has}
+use Rattle.scheduling.specs.Day.{Day}
+use Rattle.scheduling.specs.Feasible.{feasible}
+use Rattle.listing_nodes.specs.Placements.{places}
+use Rattle.listing_nodes.specs.steps.Walk.{placesFrom, placeOf, placeFits, sumsWith, sumsWithout, ifFeasible, putPlans}
+use Rattle.listing_nodes.specs.steps.Runs.{Walks, Shaped, Added}
+use Rattle.listing_nodes.proofs.PlaceLaws.{places-start, places-next, places-last, walks-next, walks-taken}
+use Rattle.listing_nodes.proofs.ListLaws.{start-length, next-start, start-kept, shaped-kept}
+use Rattle.alive_starts.specs.Alive.{Event, visit, plan, events, plansIn, visitsIn}
+use Rattle.alive_starts.specs.Run.{Standing, standing, run, goesOn}
+use Rattle.alive_starts.proofs.RunLaws.{run-stopped, run-append, run-out, run-visit, run-plan, Ran, ran}
+use Rattle.alive_starts.proofs.Visits.{plans-cost-turns}
+use Rattle.place_sets.specs.Domains.{placeNumber}
+use Rattle.look_ahead.specs.Look.{lookedAhead, isWorth}
+use Rattle.look_ahead.proofs.LookLaws.{looked-start}
+use Rattle.walk_steps.specs.Sight.{carried, nearEnd, seen, mayTake, nextIn, eyesOf, eventsFrom, eventsAt, eventsLeft}
+use Rattle.walk_steps.specs.Walks.{Filled, Ready, Walked, Takes}
+use Rattle.walk_steps.proofs.InLaws.{in-within, takes-next}
+
+-- ---- the sums of maximums, as the sums of minimums
+
+module _ (slots : ℕ) (amounts : List ℕ) (choice : ℕ) (fills : List ℕ) (few : slots ≤ 24) (e : length fills ≡ 24) where
+  -- a slot has what stands there
+  pub amount-held : (at : ℕ) → at < slots → getD amounts choice 0 ≤ getD (sumsWith slots amounts fills choice (placeOf slots at)) at 0
+  unfolding sumsWith placeOf
+  amount-held at h =
+      rw (lt-ltb at slots h)
+      (rw (lt-ltb at slots h) (rw (getD-set-same fills at (getD fills at 0 + getD amounts choice 0) 0 (omega (arith, e, few))) (omega arith)))
+
+  -- and gives it back
+  pub amounts-left : (place : ℕ) → sumsWithout slots amounts (sumsWith slots amounts fills choice place) choice place ≡ fills
+  unfolding sumsWith sumsWithout
+  amounts-left place = go (ltb place slots) refl
+    where
+      go : (b : Bool) → ltb place slots ≡ b
+          → cond b (set (cond b (set fills place (getD fills place 0 + getD amounts choice 0)) fills) place (getD (cond b (set fills place (getD fills place 0 + getD amounts choice 0)) fills) place 0 - getD amounts choice 0)) (cond b (set fills place (getD fills place 0 + getD amounts choice 0)) fills) ≡ fills
+      go true t =
+          let h : place < slots = ltb-true _ _ t in
+          let k : getD fills place 0 + getD amounts choice 0 - getD amounts choice 0 ≡ getD fills place 0 = omega arith in
+          rw (getD-set-same fills place (getD fills place 0 + getD amounts choice 0) 0 (omega (arith, e, few)), k, set-set)
+          (set-getD fills place 0)
+      go false t = refl
+
+  -- one choice more
+  pub filled-taken : (decided at : ℕ) → Filled decided fills → (at < slots → getD amounts choice 0 < 2 ^ 16) → Filled (decided + 1) (sumsWith slots amounts fills choice (placeOf slots at))
+  unfolding sumsWith placeOf
+  filled-taken decided at f k = go (ltb at slots) refl
+    where
+      kept : Filled (decided + 1) fills
+      kept = record { entries = e; low = λ slot. omega (arith, f .low slot) }
+
+      go : (b : Bool) → ltb at slots ≡ b → Filled (decided + 1) (cond (ltb (cond b at 255) slots) (set fills (cond b at 255) (getD fills (cond b at 255) 0 + getD amounts choice 0)) fills)
+      go true t =
+          let h : at < slots = ltb-true at slots t in
+          rw t
+          (record {
+            entries = length-set fills at (getD fills at 0 + getD amounts choice 0) ∙ e;
+            low =
+                λ slot. elim (ℕ-discrete slot at) [
+                  | yes i ↦ rw (i, getD-set-same fills at (getD fills at 0 + getD amounts choice 0) 0 (omega (arith, e, few, h))) (omega (arith, f .low at, k h))
+                  | no n ↦ rw (getD-set-other fills at slot (getD fills at 0 + getD amounts choice 0) 0 n) (omega (arith, f .low slot))
+                ];
+          })
+      go false t = rw (le-ltb 255 slots (omega (arith, few))) kept
+
+-- ---- the events, by the code's numbers
+
+module _ (day : Day) (tables : List ℕ) (n : ℕ) (start sums fills domains : List ℕ) where
+  -- the last so many places, and those from a slot on
+  left-past : (left : ℕ) → left ≤ day .counts .slots
+      → eventsLeft day tables n start sums fills domains (suc left) ≡ flatMap (eventsAt day tables n start sums fills domains) (placesFrom (day .counts .slots) (day .counts .slots - left))
+  unfolding eventsLeft placeOf flatMap
+  left-past zero h =
+      let z : day .counts .slots - 0 ≡ day .counts .slots = omega arith in
+      rw (z, places-last (day .counts .slots), le-ltb (day .counts .slots) (day .counts .slots) (omega arith))
+  left-past (suc left) h =
+      let k : day .counts .slots - suc left < day .counts .slots = omega arith in
+      let e : day .counts .slots - suc left + 1 ≡ day .counts .slots - left = omega arith in
+      rw (places-next (day .counts .slots) (day .counts .slots - suc left) k, lt-ltb (day .counts .slots - suc left) (day .counts .slots) k, e)
+      (ap (λ (l : List Event). eventsAt day tables n start sums fills domains (day .counts .slots - suc left) ++ l) (left-past left (omega arith)))
+
+  -- one place, and those after it
+  left-next : (left : ℕ) → 0 < left
+      → eventsLeft day tables n start sums fills domains left
+      ≡ eventsAt day tables n start sums fills domains (placeOf (day .counts .slots) (day .counts .slots + 1 - left)) ++ eventsLeft day tables n start sums fills domains (left - 1)
+  unfolding eventsLeft
+  left-next zero h = absurd (omega arith)
+  left-next (suc left) h =
+      let e : day .counts .slots + 1 - suc left ≡ day .counts .slots - left = omega arith in
+      let k : suc left - 1 ≡ left = omega arith in
+      rw (e, k)
+
+  module _ {choice : ℕ} (at : length start ≡ choice) where
+    -- a place that the choice takes
+    events-taken : (place : ℕ) → mayTake (day .counts .slots) (day .counts .choosers) (day .mins) (day .optional) sums (getD domains choice 0) choice place ≡ true
+        → eventsAt day tables n start sums fills domains place
+        ≡ eventsFrom day tables n (start ++ (place ∷ [])) (sumsWith (day .counts .slots) (day .mins) sums choice place) (sumsWith (day .counts .slots) (day .maxs) fills choice place) domains
+    unfolding eventsAt
+    events-taken place t = rw (at, t)
+
+    -- those before the next one that it may take add nothing
+    left-in : (left : ℕ)
+        → eventsLeft day tables n start sums fills domains (nextIn (day .counts .slots) (day .counts .choosers) (day .mins) (day .optional) sums (getD domains choice 0) choice left) ≡ eventsLeft day tables n start sums fills domains left
+    unfolding eventsLeft nextIn eventsAt
+    left-in zero = refl
+    left-in (suc left) = go (mayTake (day .counts .slots) (day .counts .choosers) (day .mins) (day .optional) sums (getD domains choice 0) choice (placeOf (day .counts .slots) (day .counts .slots - left))) refl (left-in left)
+      where
+        go : (b : Bool) → mayTake (day .counts .slots) (day .counts .choosers) (day .mins) (day .optional) sums (getD domains choice 0) choice (placeOf (day .counts .slots) (day .counts .slots - left)) ≡ b
+            → eventsLeft day tables n start sums fills domains (nextIn (day .counts .slots) (day .counts .choosers) (day .mins) (day .optional) sums (getD domains choice 0) choice left) ≡ eventsLeft day tables n start sums fills domains left
+            → eventsLeft day tables n start sums fills domains (cond b (suc left) (nextIn (day .counts .slots) (day .counts .choosers) (day .mins) (day .optional) sums (getD domains choice 0) choice left)) ≡ eventsLeft day tables n start sums fills domains (suc left)
+        go true t ih = refl
+        go false t ih = ih ∙ rw (at, t)
+
+module _ (day : Day) (tables : List ℕ) (start sums fills domains : List ℕ) where
+  -- what comes after the visit of a start that is worth it
+  unfoldable bodyOf : ℕ → List Event
+  bodyOf zero = map plan (ifFeasible day start)
+  bodyOf (suc n) = eventsLeft day tables n start sums fills (seen day tables start domains) (day .counts .slots + 1)
+
+  events-are : (n : ℕ) → eventsFrom day tables n start sums fills domains ≡ visit ∷ cond (isWorth (day .counts) tables (length start) fills) (bodyOf n) []
+  unfolding eventsFrom events eyesOf eventsAt bodyOf
+  events-are zero = refl
+  events-are (suc n) =
+      let z : day .counts .slots - day .counts .slots ≡ 0 = omega arith in
+      ap (λ (l : List Event). visit ∷ cond (isWorth (day .counts) tables (length start) fills) l [])
+      (sym
+      (rw (add-one (day .counts .slots))
+      (left-past day tables n start sums fills (seen day tables start domains) (day .counts .slots) (omega arith)
+      ∙ rw (z, places-start (day .counts .slots)))))
+
+-- a full start: the plan that the plan check passes is counted
+run-full : (day : Day) (first room turns : ℕ) (p : List ℕ) {met met' : ℕ} {buffer buffer' : List ℕ} → goesOn first room met ≡ true
+    → Added first room (ifFeasible day p) met met' buffer buffer'
+    → standing (goesOn first room met') turns met' buffer' ≡ run first room (standing true turns met buffer) (map plan (ifFeasible day p))
+unfolding ifFeasible putPlans run
+run-full day first room turns p {met} {met'} {buffer} {buffer'} o a = go (feasible day p) (a .counted) (a .written)
+  where
+    go : (b : Bool) → met' ≡ met + length (cond b (p ∷ []) []) → buffer' ≡ putPlans first room buffer met (cond b (p ∷ []) [])
+        → standing (goesOn first room met') turns met' buffer' ≡ run first room (standing true turns met buffer) (map plan (cond b (p ∷ []) []))
+    go true n w = rw (n, w) (sym (run-plan first room turns met buffer p []))
+    go false n w =
+        let k : met' ≡ met = n ∙ omega arith in
+        rw (k, w, o)
+
+-- ---- a choice
+
+-- what happens from here on
+abbrev hereOf : Day → List ℕ → ℕ → List ℕ → List ℕ → List ℕ → List ℕ → List Event
+hereOf day tables choice p sums fills domains = eventsFrom day tables (length p - choice) (take choice p) sums fills domains
+
+-- and at the places left
+abbrev leftOf : Day → List ℕ → ℕ → List ℕ → List ℕ → List ℕ → List ℕ → ℕ → List Event
+leftOf day tables choice p sums fills domains left = eventsLeft day tables (length p - (choice + 1)) (take choice p) sums fills domains left
+
+module _ {day : Day} {first room choice : ℕ} {p sums fills : List ℕ} {turns met : ℕ} {buffer : List ℕ} (tables domains : List ℕ)
+    (l : Ready day first room choice choice p sums fills turns met buffer) where
+  pub so-far : choice ≤ length p
+  so-far = omega (arith, l .walks .within, l .shaped .mins-fit, l .shaped .plan-fits)
+
+  -- nothing but the standing is changed
+  unmoved : {after : Standing} → after ≡ run first room (standing true turns met buffer) (hereOf day tables choice p sums fills domains)
+      → Walked first room choice (hereOf day tables choice p sums fills domains) p p sums sums fills fills (standing true turns met buffer) after
+  unmoved e = record { stands = e; start = refl; same-sums = refl; same-fills = refl; same-plan = refl }
+
+  -- no turn is left
+  pub walked-out : turns ≡ 0
+      → Walked first room choice (hereOf day tables choice p sums fills domains) p p sums sums fills fills (standing true turns met buffer) (standing false turns met buffer)
+  walked-out z =
+      unmoved
+      (sym
+      (rw z
+      (ap (run first room (standing true 0 met buffer)) (events-are day tables (take choice p) sums fills domains (length p - choice))
+      ∙ run-out first room met buffer (cond (isWorth (day .counts) tables (length (take choice p)) fills) (bodyOf day tables (take choice p) sums fills domains (length p - choice)) []))))
+
+  module _ (n : turns ≡ 0 → ⊥) where
+    pub one-turn : 1 ≤ turns
+    one-turn = pos-of-ne-zero n
+
+    -- a turn is taken, and then what is worth it
+    after-visit : {b : Bool} → b ≡ isWorth (day .counts) tables choice fills
+        → run first room (standing true turns met buffer) (hereOf day tables choice p sums fills domains)
+        ≡ run first room (standing true (turns - 1) met buffer) (cond b (bodyOf day tables (take choice p) sums fills domains (length p - choice)) [])
+    after-visit {b} w =
+        let k : turns ≡ suc (turns - 1) = omega (arith, one-turn) in
+        ap (run first room (standing true turns met buffer)) (events-are day tables (take choice p) sums fills domains (length p - choice))
+        ∙ ap
+        (λ (t : ℕ). run first room (standing true t met buffer) (visit ∷ cond (isWorth (day .counts) tables (length (take choice p)) fills) (bodyOf day tables (take choice p) sums fills domains (length p - choice)) []))
+        k
+        ∙ run-visit first room (turns - 1) met buffer (cond (isWorth (day .counts) tables (length (take choice p)) fills) (bodyOf day tables (take choice p) sums fills domains (length p - choice)) [])
+        ∙ ap (λ (c : Bool). run first room (standing true (turns - 1) met buffer) (cond c (bodyOf day tables (take choice p) sums fills domains (length p - choice)) []))
+        (ap (λ (i : ℕ). isWorth (day .counts) tables i fills) (length-take-le choice p so-far) ∙ sym w)
+
+    -- a start that isn't worth it
+    pub walked-past : {b : Bool} → b ≡ isWorth (day .counts) tables choice fills → b ≡ false
+        → Walked first room choice (hereOf day tables choice p sums fills domains) p p sums sums fills fills (standing true turns met buffer) (standing true (turns - 1) met buffer)
+    unfolding run
+    walked-past w f = unmoved (sym (after-visit w ∙ ap (λ (c : Bool). run first room (standing true (turns - 1) met buffer) (cond c (bodyOf day tables (take choice p) sums fills domains (length p - choice)) [])) f))
+
+    module _ {b : Bool} (w : b ≡ isWorth (day .counts) tables choice fills) (t : b ≡ true) where
+      worth-visit : run first room (standing true turns met buffer) (hereOf day tables choice p sums fills domains)
+          ≡ run first room (standing true (turns - 1) met buffer) (bodyOf day tables (take choice p) sums fills domains (length p - choice))
+      worth-visit =
+          after-visit w ∙ ap (λ (c : Bool). run first room (standing true (turns - 1) met buffer) (cond c (bodyOf day tables (take choice p) sums fills domains (length p - choice)) [])) t
+
+      -- a full start
+      module _ (e : choice ≡ length p) where
+        pub full-numbers : met + length (ifFeasible day p) < 2 ^ 64
+        unfolding ifFeasible
+        full-numbers = go (feasible day p)
+          where
+            go : (c : Bool) → met + length (cond c (p ∷ []) []) < 2 ^ 64
+            go true = omega (arith, l .numbers, one-turn)
+            go false = omega (arith, l .numbers)
+
+        pub walked-full : {met' : ℕ} {p' buffer' : List ℕ} {r : Bool} → p' ≡ p → Added first room (ifFeasible day p) met met' buffer buffer' → r ≡ goesOn first room met'
+            → Walked first room choice (hereOf day tables choice p sums fills domains) p p' sums sums fills fills (standing true turns met buffer) (standing r (turns - 1) met' buffer')
+        unfolding bodyOf
+        walked-full {met'} {p'} {buffer'} s a g =
+            let z : length p - choice ≡ 0 = omega (arith, e) in
+            record {
+              stands =
+                  ap (λ (c : Bool). standing c (turns - 1) met' buffer') g
+                  ∙ run-full day first room (turns - 1) p (l .unfinished) a
+                  ∙ ap (λ (q : List ℕ). run first room (standing true (turns - 1) met buffer) (map plan (ifFeasible day q))) (sym (take-length p) ∙ ap (λ (i : ℕ). take i p) (sym e))
+                  ∙ ap (λ (i : ℕ). run first room (standing true (turns - 1) met buffer) (bodyOf day tables (take choice p) sums fills domains i)) (sym z)
+                  ∙ sym worth-visit;
+              start = ap (take choice) s;
+              same-sums = refl;
+              same-fills = refl;
+              same-plan = ap length s;
+            }
+
+      -- any other goes on to the places that the choice may take, the domains as they are seen
+      module _ (m : choice ≡ length p → ⊥) {seeing : List ℕ} (v : seeing ≡ seen day tables (take choice p) domains)
+          {next : ℕ} (e : next ≡ nextIn (day .counts .slots) (day .counts .choosers) (day .mins) (day .optional) sums (getD seeing choice 0) choice (day .counts .slots + 1)) where
+        before-end : choice < length p
+        before-end = lt-of-le-ne so-far m
+
+        on-visit : run first room (standing true turns met buffer) (hereOf day tables choice p sums fills domains)
+            ≡ run first room (standing true (turns - 1) met buffer) (leftOf day tables choice p sums fills seeing next)
+        unfolding bodyOf
+        on-visit =
+            let k : length p - choice ≡ suc (length p - (choice + 1)) = omega (arith, before-end) in
+            worth-visit
+            ∙ ap (λ (i : ℕ). run first room (standing true (turns - 1) met buffer) (bodyOf day tables (take choice p) sums fills domains i)) k
+            ∙ ap (λ (d : List ℕ). run first room (standing true (turns - 1) met buffer) (leftOf day tables choice p sums fills d (day .counts .slots + 1))) (sym v)
+            ∙ ap (run first room (standing true (turns - 1) met buffer))
+            (sym
+            (ap (leftOf day tables choice p sums fills seeing) e
+            ∙ left-in day tables (length p - (choice + 1)) (take choice p) sums fills seeing (length-take-le choice p so-far) (day .counts .slots + 1)))
+
+        pub walked-none : next ≡ 0
+            → Walked first room choice (hereOf day tables choice p sums fills domains) p p sums sums fills fills (standing true turns met buffer) (standing true (turns - 1) met buffer)
+        unfolding eventsLeft run
+        walked-none z =
+            unmoved (sym (on-visit ∙ ap (λ (i : ℕ). run first room (standing true (turns - 1) met buffer) (leftOf day tables choice p sums fills seeing i)) z))
+
+        pub on-requires : (next ≡ 0 → ⊥) → Ready day first room (choice + 1) choice p sums fills (turns - 1) met buffer × Takes day choice next sums seeing
+        on-requires k = (
+          record {
+            shaped = l .shaped;
+            walks = walks-next (l .walks) (λ i. m (i ∙ l .shaped .mins-fit ∙ sym (l .shaped .plan-fits)));
+            filled = l .filled;
+            unfinished = l .unfinished;
+            numbers = omega (arith, l .numbers);
+          },
+          takes-next day choice (day .counts .slots + 1) sums seeing (omega arith) e k,
+        )
+
+        pub walked-on : {after : Standing} {p' sums' fills' : List ℕ}
+            → Walked first room choice (leftOf day tables choice p sums fills seeing next) p p' sums sums' fills fills' (standing true (turns - 1) met buffer) after
+            → Walked first room choice (hereOf day tables choice p sums fills domains) p p' sums sums' fills fills' (standing true turns met buffer) after
+        walked-on g =
+            record { stands = g .stands ∙ sym on-visit; start = g .start; same-sums = g .same-sums; same-fills = g .same-fills; same-plan = g .same-plan }
+
+        -- the same of a plan that is lent on the way
+        module _ {q : List ℕ} (s : q ≡ p) where
+          pub none-lent : next ≡ 0
+              → Walked first room choice (hereOf day tables choice p sums fills domains) p q sums sums fills fills (standing true turns met buffer) (standing true (turns - 1) met buffer)
+          none-lent z = rw s (walked-none z)
+
+          pub requires-lent : (next ≡ 0 → ⊥) → Ready day first room (choice + 1) choice q sums fills (turns - 1) met buffer × Takes day choice next sums seeing
+          requires-lent k = rw s (on-requires k)
+
+          pub on-lent : {after : Standing} {p' sums' fills' : List ℕ}
+              → Walked first room choice (leftOf day tables choice q sums fills seeing next) q p' sums sums' fills fills' (standing true (turns - 1) met buffer) after
+              → Walked first room choice (hereOf day tables choice p sums fills domains) p p' sums sums' fills fills' (standing true turns met buffer) after
+          on-lent g = walked-on (rw s at g)
+
+  -- a choice has its place among 64
+  pub choice-low : (choice ≡ length p → ⊥) → choice < 64
+  choice-low m = omega (arith, lt-of-le-ne so-far m, l .shaped .few-choices, l .shaped .plan-fits)
+
+-- the domains as they are seen: near the end those that are there
+pub seen-near : (day : Day) (tables p domains : List ℕ) (choice : ℕ) {b : Bool} → choice ≤ length p → length p ≡ day .counts .choices → b ≡ nearEnd (length p) choice → b ≡ true
+    → domains ≡ seen day tables (take choice p) domains
+unfolding seen
+seen-near day tables p domains choice h s e t =
+    let k : nearEnd (day .counts .choices) (length (take choice p)) ≡ true = rw (length-take-le choice p h, sym s) (sym e ∙ t) in
+    sym (rw k)
+
+-- before it those that looking ahead leaves
+pub seen-ahead : (day : Day) (tables p domains : List ℕ) (choice : ℕ) {b : Bool} {seeing : List ℕ} → choice ≤ length p → length p ≡ day .counts .choices → b ≡ nearEnd (length p) choice → b ≡ false
+    → seeing ≡ lookedAhead (day .counts) (day .mins) (day .maxs) (day .rows) tables p choice domains → seeing ≡ seen day tables (take choice p) domains
+unfolding seen
+seen-ahead day tables p domains choice h s e f v =
+    let k : nearEnd (day .counts .choices) (length (take choice p)) ≡ false = rw (length-take-le choice p h, sym s) (sym e ∙ f) in
+    v
+    ∙ sym (looked-start (day .counts) (day .mins) (day .maxs) (day .rows) tables p choice domains h)
+    ∙ sym (rw (k, length-take-le choice p h))
+
+-- ---- a place
+
+both-left : (a b : Bool) → (a && b) ≡ true → a ≡ true
+both-left true b e = refl
+both-left false b e = e
+
+-- the place with so many left
+abbrev placeWith : Day → ℕ → ℕ
+placeWith day left = placeOf (day .counts .slots) (day .counts .slots + 1 - left)
+
+module _ (choice left : ℕ) {day : Day} {first room : ℕ} {p sums fills : List ℕ} {turns met : ℕ} {buffer : List ℕ} (tables domains : List ℕ)
+    (l : Ready day first room (choice + 1) choice p sums fills turns met buffer) (o : Takes day choice left sums domains) where
+  pub within-plan : choice < length p
+  within-plan = omega (arith, l .walks .within, l .shaped .mins-fit, l .shaped .plan-fits)
+
+  at-start : length (take choice p) ≡ choice
+  at-start = start-length choice p within-plan
+
+  fits-here : placeFits (day .counts .slots) (day .counts .choosers) (day .mins) (day .optional) sums choice (placeWith day left) ≡ true
+  unfolding mayTake
+  fits-here =
+      both-left (placeFits (day .counts .slots) (day .counts .choosers) (day .mins) (day .optional) sums choice (placeWith day left)) (has (getD domains choice 0) (placeNumber (day .counts .slots) (placeWith day left)))
+      (o .fits)
+
+  -- what standing there asks for
+  pub take-requires : {at : ℕ} → at ≡ day .counts .slots + 1 - left
+      → (choice < 64) × (choice < length (day .mins)) × (choice < length (day .maxs)) × (choice < length p) × (at ≤ day .counts .slots) × (day .counts .slots ≤ 24) × (getD sums at 0 ≤ 200) × (getD fills at 0 ≤ 64 * 65536)
+  take-requires {at} i =
+      let few : choice < 64 = omega (arith, within-plan, l .shaped .few-choices, l .shaped .plan-fits) in (
+        few,
+        omega (arith, l .walks .within),
+        omega (arith, l .walks .within, l .shaped .mins-fit, l .shaped .maxs-fit),
+        within-plan,
+        omega (arith, i, o .some),
+        l .shaped .few-slots,
+        omega (arith, l .walks .low at, l .walks .few-choosers),
+        omega (arith, l .filled .low at, few),
+      )
+
+  -- the choice stands there
+  module _ {at : ℕ} (place-is : at ≡ day .counts .slots + 1 - left) {p' sums' fills' : List ℕ} (p-is : p' ≡ set p choice (placeOf (day .counts .slots) at))
+      (q-is : sums' ≡ sumsWith (day .counts .slots) (day .mins) sums choice (placeOf (day .counts .slots) at))
+      (f-is : fills' ≡ sumsWith (day .counts .slots) (day .maxs) fills choice (placeOf (day .counts .slots) at))
+      (u : at < day .counts .slots → getD (day .maxs) choice 0 < 2 ^ 16) where
+    p-here : p' ≡ set p choice (placeWith day left)
+    p-here = p-is ∙ ap (λ (k : ℕ). set p choice (placeOf (day .counts .slots) k)) place-is
+
+    q-here : sums' ≡ sumsWith (day .counts .slots) (day .mins) sums choice (placeWith day left)
+    q-here = q-is ∙ ap (λ (k : ℕ). sumsWith (day .counts .slots) (day .mins) sums choice (placeOf (day .counts .slots) k)) place-is
+
+    f-here : fills' ≡ sumsWith (day .counts .slots) (day .maxs) fills choice (placeWith day left)
+    f-here = f-is ∙ ap (λ (k : ℕ). sumsWith (day .counts .slots) (day .maxs) fills choice (placeOf (day .counts .slots) k)) place-is
+
+    here-events : eventsAt day tables (length p - (choice + 1)) (take choice p) sums fills domains (placeWith day left) ≡ hereOf day tables (choice + 1) p' sums' fills' domains
+    here-events =
+        events-taken day tables (length p - (choice + 1)) (take choice p) sums fills domains at-start (placeWith day left) (o .fits)
+        ∙ sym (rw (p-here, q-here, f-here, length-set p choice (placeWith day left), next-start choice p within-plan (placeWith day left)))
+
+    pub taken-requires : Ready day first room (choice + 1) (choice + 1) p' sums' fills' turns met buffer
+    taken-requires =
+        record {
+          shaped = shaped-kept (l .shaped) (rw p-here (length-set p choice (placeWith day left))) refl;
+          walks = rw q-here (walks-taken choice (day .counts .slots + 1 - left) (l .walks) fits-here);
+          filled = rw f-is (filled-taken (day .counts .slots) (day .maxs) choice fills (l .shaped .few-slots) (l .filled .entries) choice at (l .filled) u);
+          unfinished = l .unfinished;
+          numbers = l .numbers;
+        }
+
+    module _ {r : Bool} {turns₁ met₁ : ℕ} {p₁ sums₁ fills₁ buffer₁ : List ℕ}
+        (g : Walked first room (choice + 1) (hereOf day tables (choice + 1) p' sums' fills' domains) p' p₁ sums' sums₁ fills' fills₁ (standing true turns met buffer) (standing r turns₁ met₁ buffer₁)) where
+      -- what leaving it asks for
+      pub leave-requires : (choice < 64) × (choice < length (day .mins)) × (choice < length (day .maxs)) × (at ≤ day .counts .slots) × (day .counts .slots ≤ 24)
+          × (at < day .counts .slots → (getD (day .mins) choice 0 ≤ getD sums₁ at 0) × (getD (day .maxs) choice 0 ≤ getD fills₁ at 0))
+      leave-requires =
+          let t = take-requires place-is in (
+            t .0,
+            t .1,
+            t .2,
+            t .4,
+            t .5,
+            λ h. (
+              rw (g .same-sums ∙ q-is) (amount-held (day .counts .slots) (day .mins) choice sums (l .shaped .few-slots) (l .walks .entries) at h),
+              rw (g .same-fills ∙ f-is) (amount-held (day .counts .slots) (day .maxs) choice fills (l .shaped .few-slots) (l .filled .entries) at h),
+            ),
+          )
+
+      module _ {sums₂ fills₂ : List ℕ} (e : sums₂ ≡ sumsWithout (day .counts .slots) (day .mins) sums₁ choice (placeOf (day .counts .slots) at))
+          (e' : fills₂ ≡ sumsWithout (day .counts .slots) (day .maxs) fills₁ choice (placeOf (day .counts .slots) at)) where
+        sums-back : sums₂ ≡ sums
+        sums-back = e ∙ rw (g .same-sums ∙ q-is) (amounts-left (day .counts .slots) (day .mins) choice sums (l .shaped .few-slots) (l .walks .entries) (placeOf (day .counts .slots) at))
+
+        fills-back : fills₂ ≡ fills
+        fills-back = e' ∙ rw (g .same-fills ∙ f-is) (amounts-left (day .counts .slots) (day .maxs) choice fills (l .shaped .few-slots) (l .filled .entries) (placeOf (day .counts .slots) at))
+
+        same : length p₁ ≡ length p
+        same = g .same-plan ∙ ap length p-here ∙ length-set p choice (placeWith day left)
+
+        before : take choice p₁ ≡ take choice p
+        before = start-kept choice p within-plan (placeWith day left) p₁ (rw p-here at (g .start))
+
+        -- the place, and those after it
+        left-run : run first room (standing true turns met buffer) (leftOf day tables choice p sums fills domains left)
+            ≡ run first room (standing r turns₁ met₁ buffer₁) (leftOf day tables choice p sums fills domains (left - 1))
+        left-run =
+            ap (run first room (standing true turns met buffer)) (left-next day tables (length p - (choice + 1)) (take choice p) sums fills domains left (o .some))
+            ∙ run-append first room (standing true turns met buffer) (eventsAt day tables (length p - (choice + 1)) (take choice p) sums fills domains (placeWith day left)) (leftOf day tables choice p sums fills domains (left - 1))
+            ∙ ap (λ (s : Standing). run first room s (leftOf day tables choice p sums fills domains (left - 1)))
+            (ap (run first room (standing true turns met buffer)) here-events ∙ sym (g .stands))
+
+        moved : {after : Standing} → after ≡ run first room (standing true turns met buffer) (leftOf day tables choice p sums fills domains left)
+            → Walked first room choice (leftOf day tables choice p sums fills domains left) p p₁ sums sums₂ fills fills₂ (standing true turns met buffer) after
+        moved k = record { stands = k; start = before; same-sums = sums-back; same-fills = fills-back; same-plan = same }
+
+        -- the walk has ended
+        pub walked-stopped : r ≡ false
+            → Walked first room choice (leftOf day tables choice p sums fills domains left) p p₁ sums sums₂ fills fills₂ (standing true turns met buffer) (standing false turns₁ met₁ buffer₁)
+        walked-stopped f =
+            moved
+            (ap (λ (c : Bool). standing c turns₁ met₁ buffer₁) (sym f)
+            ∙ sym (left-run ∙ run-stopped first room (standing r turns₁ met₁ buffer₁) (leftOf day tables choice p sums fills domains (left - 1)) f))
+
+        -- or goes on to the places left that it may take
+        module _ (t : r ≡ true) {next : ℕ} (m : next ≡ nextIn (day .counts .slots) (day .counts .choosers) (day .mins) (day .optional) sums₂ (getD domains choice 0) choice (left - 1)) where
+          pub fewer : next < left
+          fewer = omega (arith, m, in-within (day .counts .slots) (day .counts .choosers) (day .mins) (day .optional) sums₂ (getD domains choice 0) choice (left - 1), o .some)
+
+          rest-events : leftOf day tables choice p₁ sums₂ fills₂ domains next ≡ leftOf day tables choice p sums fills domains (left - 1)
+          rest-events =
+              rw (same, before, m)
+              (rw (sums-back, fills-back) (left-in day tables (length p - (choice + 1)) (take choice p) sums fills domains at-start (left - 1)))
+
+          rest-run : run first room (standing true turns met buffer) (leftOf day tables choice p sums fills domains left)
+              ≡ run first room (standing true turns₁ met₁ buffer₁) (leftOf day tables choice p₁ sums₂ fills₂ domains next)
+          rest-run =
+              left-run
+              ∙ ap (λ (c : Bool). run first room (standing c turns₁ met₁ buffer₁) (leftOf day tables choice p sums fills domains (left - 1))) t
+              ∙ ap (run first room (standing true turns₁ met₁ buffer₁)) (sym rest-events)
+
+          pub walked-last : next ≡ 0
+              → Walked first room choice (leftOf day tables choice p sums fills domains left) p p₁ sums sums₂ fills fills₂ (standing true turns met buffer) (standing true turns₁ met₁ buffer₁)
+          unfolding eventsLeft run
+          walked-last z = moved (sym (rest-run ∙ ap (λ (i : ℕ). run first room (standing true turns₁ met₁ buffer₁) (leftOf day tables choice p₁ sums₂ fills₂ domains i)) z))
+
+          pub rest-requires : length buffer₁ ≡ length buffer → (next ≡ 0 → ⊥) → Ready day first room (choice + 1) choice p₁ sums₂ fills₂ turns₁ met₁ buffer₁ × Takes day choice next sums₂ domains
+          unfolding eventsFrom
+          rest-requires b k =
+              let a : Ran first room turns met buffer (hereOf day tables (choice + 1) p' sums' fills' domains) (standing r turns₁ met₁ buffer₁) = rw (g .stands) (ran first room (hereOf day tables (choice + 1) p' sums' fills' domains) turns met buffer (l .unfinished)) in
+              let c = plans-cost-turns day (eyesOf day tables) (length p' - (choice + 1)) (take (choice + 1) p') (carried sums' fills' domains) in (
+                record {
+                  shaped = shaped-kept (l .shaped) same b;
+                  walks = rw sums-back (l .walks);
+                  filled = rw fills-back (l .filled);
+                  unfinished = a .on t .2;
+                  numbers = omega (arith, l .numbers, a .number, a .on t .0, a .on t .1, c);
+                },
+                takes-next day choice (left - 1) sums₂ domains (omega (arith, o .few)) m k,
+              )
+
+          pub walked-rest : {after : Standing} {p₂ sums₃ fills₃ : List ℕ}
+              → Walked first room choice (leftOf day tables choice p₁ sums₂ fills₂ domains next) p₁ p₂ sums₂ sums₃ fills₂ fills₃ (standing true turns₁ met₁ buffer₁) after
+              → Walked first room choice (leftOf day tables choice p sums fills domains left) p p₂ sums sums₃ fills fills₃ (standing true turns met buffer) after
+          walked-rest d =
+              record {
+                stands = d .stands ∙ sym rest-run;
+                start = d .start ∙ before;
+                same-sums = d .same-sums ∙ sums-back;
+                same-fills = d .same-fills ∙ fills-back;
+                same-plan = d .same-plan ∙ same;
+              }

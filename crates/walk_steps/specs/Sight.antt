@@ -1,0 +1,73 @@
+-- The eyes of the walk: what it carries along beside a start, and what it looks at.
+use mathlib.Core.Bool.{Bool, _&&_, cond}
+use mathlib.Core.List.{List, [], _∷_, _++_}
+use Prim.Native.Nat.{ℕ, zero, suc, _+_, _-_}
+use lib.Dec.{ltb, leb}
+use lib.ListN.{length, getD}
+use Rattle.choice_sets.specs.Sets.{has}
+use Rattle.scheduling.specs.Day.{Day}
+use Rattle.listing_nodes.specs.steps.Walk.{placeOf, placeFits, sumsWith}
+use Rattle.alive_starts.specs.Alive.{Event, Eyes, events}
+use Rattle.place_sets.specs.Domains.{placeNumber}
+use Rattle.look_ahead.specs.Look.{lookedAhead, isWorth}
+
+-- each slot's sum of minimums and of maximums, and the domains
+pub record Carried : Type 0 where
+  pub sums : List ℕ
+  pub fills : List ℕ
+  pub domains : List ℕ
+
+abbrev pub carried : List ℕ → List ℕ → List ℕ → Carried
+carried sums fills domains = record { sums = sums; fills = fills; domains = domains }
+
+-- with five choices left or fewer the walk looks ahead no more
+unfoldable pub nearEnd : ℕ → ℕ → Bool
+nearEnd choices choice = leb choices (choice + 5)
+
+-- the domains at a start
+unfoldable pub seen : Day → List ℕ → List ℕ → List ℕ → List ℕ
+seen day tables start domains =
+    cond (nearEnd (day .counts .choices) (length start)) domains
+    (lookedAhead (day .counts) (day .mins) (day .maxs) (day .rows) tables start (length start) domains)
+
+-- a choice may take a place: the minimums fit, and its domain has it
+unfoldable pub mayTake : ℕ → ℕ → List ℕ → List ℕ → List ℕ → ℕ → ℕ → ℕ → Bool
+mayTake slots choosers mins optional sums domain choice place =
+    placeFits slots choosers mins optional sums choice place && has domain (placeNumber slots place)
+
+-- how many places are left from the next one on that a choice may take, of the last so many; 0 if there is none
+unfoldable pub nextIn : ℕ → ℕ → List ℕ → List ℕ → List ℕ → ℕ → ℕ → ℕ → ℕ
+nextIn slots choosers mins optional sums domain choice zero = 0
+nextIn slots choosers mins optional sums domain choice (suc left) =
+    cond (mayTake slots choosers mins optional sums domain choice (placeOf slots (slots - left))) (suc left)
+    (nextIn slots choosers mins optional sums domain choice left)
+
+-- the walk's eyes
+unfoldable pub eyesOf : Day → List ℕ → Eyes Carried
+eyesOf day tables =
+    record {
+      worth = λ start x. isWorth (day .counts) tables (length start) (x .fills);
+      opens = λ start x place. mayTake (day .counts .slots) (day .counts .choosers) (day .mins) (day .optional) (x .sums) (getD (seen day tables start (x .domains)) (length start) 0) (length start) place;
+      next = λ start x place. carried
+          (sumsWith (day .counts .slots) (day .mins) (x .sums) (length start) place)
+          (sumsWith (day .counts .slots) (day .maxs) (x .fills) (length start) place)
+          (seen day tables start (x .domains));
+    }
+
+module _ (day : Day) (tables : List ℕ) where
+  -- what happens from a start on, with so many choices left
+  unfoldable pub eventsFrom : ℕ → List ℕ → List ℕ → List ℕ → List ℕ → List Event
+  eventsFrom n start sums fills domains = events day (eyesOf day tables) n start (carried sums fills domains)
+
+  -- with one place, the domains as they are seen at the start
+  unfoldable pub eventsAt : ℕ → List ℕ → List ℕ → List ℕ → List ℕ → ℕ → List Event
+  eventsAt n start sums fills domains place =
+      cond (mayTake (day .counts .slots) (day .counts .choosers) (day .mins) (day .optional) sums (getD domains (length start) 0) (length start) place)
+      (eventsFrom n (start ++ (place ∷ [])) (sumsWith (day .counts .slots) (day .mins) sums (length start) place) (sumsWith (day .counts .slots) (day .maxs) fills (length start) place) domains)
+      []
+
+  -- with one of the last so many places
+  unfoldable pub eventsLeft : ℕ → List ℕ → List ℕ → List ℕ → List ℕ → ℕ → List Event
+  eventsLeft n start sums fills domains zero = []
+  eventsLeft n start sums fills domains (suc left) =
+      eventsAt n start sums fills domains (placeOf (day .counts .slots) (day .counts .slots - left)) ++ eventsLeft n start sums fills domains left

@@ -1,0 +1,39 @@
+-- What the functions of the walk hand on to each other.
+use mathlib.Core.Path.{_≡_}
+use mathlib.Core.Bool.{Bool, true}
+use mathlib.Core.List.{List}
+use Prim.Native.Nat.{ℕ, _+_, _-_, _*_, _≤_, _<_, _^_}
+use lib.ListN.{length, getD, take}
+use Rattle.scheduling.specs.Day.{Day}
+use Rattle.listing_nodes.specs.steps.Walk.{placeOf}
+use Rattle.listing_nodes.specs.steps.Runs.{Walks, Shaped}
+use Rattle.alive_starts.specs.Alive.{Event}
+use Rattle.alive_starts.specs.Run.{Standing, run, goesOn}
+use Rattle.walk_steps.specs.Sight.{mayTake}
+
+-- sums of maximums, none over what so many choices may have
+pub record Filled (choices : ℕ) (fills : List ℕ) : Type 0 where
+  pub entries : length fills ≡ 24
+  pub low : (slot : ℕ) → getD fills slot 0 ≤ choices * 65536
+
+-- what the walk needs: the shapes, the sums, a page that isn't over, and numbers for the plans that its turns can meet
+pub record Ready (day : Day) (first room choice decided : ℕ) (plan sums fills : List ℕ) (turns met : ℕ) (buffer : List ℕ) : Type 0 where
+  pub shaped : Shaped day room plan buffer
+  pub walks : Walks (day .counts .slots) (day .counts .choosers) (day .mins) (day .optional) choice sums
+  pub filled : Filled decided fills
+  pub unfinished : goesOn first room met ≡ true
+  pub numbers : met + turns < 2 ^ 64
+
+-- where the walk stands after these events; the start and the sums are as before
+pub record Walked (first room choice : ℕ) (events : List Event) (plan plan' sums sums' fills fills' : List ℕ) (before after : Standing) : Type 0 where
+  pub stands : after ≡ run first room before events
+  pub start : take choice plan' ≡ take choice plan
+  pub same-sums : sums' ≡ sums
+  pub same-fills : fills' ≡ fills
+  pub same-plan : length plan' ≡ length plan
+
+-- a place is left, and the choice may take it
+pub record Takes (day : Day) (choice left : ℕ) (sums domains : List ℕ) : Type 0 where
+  pub some : 0 < left
+  pub few : left ≤ day .counts .slots + 1
+  pub fits : mayTake (day .counts .slots) (day .counts .choosers) (day .mins) (day .optional) sums (getD domains choice 0) choice (placeOf (day .counts .slots) (day .counts .slots + 1 - left)) ≡ true
