@@ -15,7 +15,7 @@ const FIRST: u64 = 0;
 
 const ROOM: u64 = 100;
 
-const BUDGET: u64 = 100_000_000;
+const BUDGET: u64 = 2_000_000;
 
 // Room for a file, and for one byte more that shows that it is too long.
 fn file_pool() -> [u8; 26_828]
@@ -26,7 +26,7 @@ fn file_pool() -> [u8; 26_828]
 
 // Room for the longest text.
 fn text_pool() -> [u8; LONGEST_TEXT]
-    ensures { λ r. ⌜ 288836 ≡ length r ⌝ }
+    ensures { λ r. ⌜ 288818 ≡ length r ⌝ }
 {
     [0; LONGEST_TEXT]
 }

@@ -11,16 +11,21 @@ use Rattle.texts.specs.Text.{ascii, decimal, numberLine, clashText, refusedText
 use Rattle.texts.proofs.DecimalLaws.{decimal-length, decimal-short}
 use Rattle.texts.proofs.LineLaws.{number-line-most}
 use Rattle.plans_lines.specs.Pages.{plansIn}
-use Rattle.plans_lines.specs.Lines.{Answer, listed, turns, clash, refused, placeText, planLine, planLines, answerText}
+use Rattle.plans_lines.specs.Lines.{Answer, ended, goesOn, turns, clash, refused, placeText, planLine, planLines, pageText, answerText}
 
 -- a plan of at most 64 choices, each with a place of a byte
 abbrev pub ModestPlan : List ℕ → Type 0
 ModestPlan plan = (length plan ≤ 64) × ((place : ℕ) → List·Memᴰ place plan → place < 256)
 
--- an answer of at most 1,024 such plans
+-- at most 1,024 such plans
+abbrev pub ModestPage : List (List ℕ) → Type 0
+ModestPage plans = (length plans ≤ 1024) × ((plan : List ℕ) → List·Memᴰ plan plans → ModestPlan plan)
+
+-- an answer with such a page
 abbrev pub Modest : Answer → Type 0
-Modest (listed first total nodes plans) = (length plans ≤ 1024) × ((plan : List ℕ) → List·Memᴰ plan plans → ModestPlan plan)
-Modest (turns budget) = Unit {0}
+Modest (ended first total plans) = ModestPage plans
+Modest (goesOn first met plans) = ModestPage plans
+Modest (turns first met plans) = ModestPage plans
 Modest clash = Unit {0}
 Modest (refused number) = Unit {0}
 
@@ -65,23 +70,23 @@ lines-length number (plan ∷ plans) h =
     let b : length (planLines (number + 1) plans) ≤ 282 * length plans = lines-length (number + 1) plans (λ p m. h p (List·Memᴰ·tail m)) in
     rw (length-append (planLine number plan) (planLines (number + 1) plans)) (omega arith)
 
--- a modest answer's text fits the pool lent for it
-pub answer-fits : (answer : Answer) → Modest answer → length (answerText answer) ≤ 288836
-unfolding answerText clashText refusedText
-answer-fits (listed first total nodes plans) h =
-    let a : length (numberLine (ascii "total ") total) ≤ 27 = number-line-most (ascii "total ") total in
-    let b : length (numberLine (ascii "nodes ") nodes) ≤ 27 = number-line-most (ascii "nodes ") nodes in
+-- a page's text fits the pool lent for it
+text-fits : (head : List ℕ) (first number : ℕ) (plans : List (List ℕ)) → length head ≤ 29 → ModestPage plans → length (pageText head first number plans) ≤ 288818
+unfolding pageText
+text-fits head first number plans short h =
+    let a : length (numberLine head number) ≤ length head + 21 = number-line-most head number in
     let l : length (planLines first plans) ≤ 282 * length plans = lines-length first plans (h .1) in
     let s : length plans ≤ 1024 = h .0 in
-    let e : length (numberLine (ascii "nodes ") nodes ++ planLines first plans) ≡ length (numberLine (ascii "nodes ") nodes) + length (planLines first plans) =
-    length-append (numberLine (ascii "nodes ") nodes) (planLines first plans) in
-    let f : length (numberLine (ascii "total ") total ++ (numberLine (ascii "nodes ") nodes ++ planLines first plans))
-    ≡ length (numberLine (ascii "total ") total) + length (numberLine (ascii "nodes ") nodes ++ planLines first plans) =
-    length-append (numberLine (ascii "total ") total) (numberLine (ascii "nodes ") nodes ++ planLines first plans) in
+    let e : length (numberLine head number ++ planLines first plans) ≡ length (numberLine head number) + length (planLines first plans) =
+    length-append (numberLine head number) (planLines first plans) in
     omega arith
-answer-fits (turns budget) h =
-    let a : length (numberLine (ascii "nodes ") budget) ≤ 27 = number-line-most (ascii "nodes ") budget in
-    omega arith
+
+-- so does a modest answer's
+pub answer-fits : (answer : Answer) → Modest answer → length (answerText answer) ≤ 288818
+unfolding answerText clashText refusedText
+answer-fits (ended first total plans) h = text-fits (ascii "result listed\ntotal ") first total plans (omega arith) h
+answer-fits (goesOn first met plans) h = text-fits (ascii "result listed\ntotal at least ") first met plans (omega arith) h
+answer-fits (turns first met plans) h = text-fits (ascii "result turns\ntotal at least ") first met plans (omega arith) h
 answer-fits clash h = omega arith
 answer-fits (refused number) h =
     let a : length (numberLine (ascii "result refused ") number) ≤ 36 = number-line-most (ascii "result refused ") number in
@@ -123,10 +128,10 @@ plans-modest (suc count) choices page c h =
     )
 
 -- the text of a page within the limits fits the pool lent for it
-pub page-fits : (first total nodes count choices : ℕ) (page text : List ℕ) → count ≤ 1024 → choices ≤ 64 → ((k : ℕ) → getD page k 0 < 256) → 288836 ≤ length text
-    → 0 + length (answerText (listed first total nodes (plansIn count choices page))) ≤ length text
-page-fits first total nodes count choices page text n c b l =
+pub page-fits : (head : List ℕ) (first number count choices : ℕ) (page text : List ℕ) → count ≤ 1024 → choices ≤ 64 → length head ≤ 29 → ((k : ℕ) → getD page k 0 < 256) → 288818 ≤ length text
+    → 0 + length (pageText head first number (plansIn count choices page)) ≤ length text
+page-fits head first number count choices page text n c s b l =
     let m = plans-modest count choices page c (member-byte page b) in
-    let f : length (answerText (listed first total nodes (plansIn count choices page))) ≤ 288836 =
-    answer-fits (listed first total nodes (plansIn count choices page)) (let e = m .0 in omega (arith, e, n), m .1) in
+    let f : length (pageText head first number (plansIn count choices page)) ≤ 288818 =
+    text-fits head first number (plansIn count choices page) s (let e = m .0 in omega (arith, e, n), m .1) in
     omega (arith, f, l)

@@ -4,7 +4,7 @@ use mathlib.Core.List.{List, _++_, flatMap}
 use Prim.Native.Nat.{ℕ}
 use borrow.Author.Tests.{eq-eqb, ne-eqb}
 use Rattle.texts.specs.Text.{ascii, decimal, numberLine, clashText, refusedText}
-use Rattle.plans_lines.specs.Lines.{placeText, planLine, planLines, answerText, listed, turns, clash, refused}
+use Rattle.plans_lines.specs.Lines.{placeText, planLine, planLines, pageText, answerText, ended, goesOn, turns, clash, refused}
 
 -- a choice that is out
 pub place-out : (place : ℕ) → place ≡ 255 → ascii " out" ≡ placeText place
@@ -21,15 +21,23 @@ pub plan-line-is : (number : ℕ) (plan : List ℕ) → planLine number plan ≡
 unfolding planLine
 plan-line-is number plan = refl
 
--- the four answers
-pub listed-is : (first total nodes : ℕ) (plans : List (List ℕ))
-    → answerText (listed first total nodes plans) ≡ ascii "result listed\n" ++ (numberLine (ascii "total ") total ++ (numberLine (ascii "nodes ") nodes ++ planLines first plans))
-unfolding answerText
-listed-is first total nodes plans = refl
+-- a page: its head with the number, and its plans
+pub page-is : (head : List ℕ) (first number : ℕ) (plans : List (List ℕ)) → pageText head first number plans ≡ numberLine head number ++ planLines first plans
+unfolding pageText
+page-is head first number plans = refl
 
-pub turns-is : (budget : ℕ) → numberLine (ascii "result turns\nnodes ") budget ≡ answerText (turns budget)
-unfolding numberLine answerText
-turns-is budget = refl
+-- the three answers with a page
+pub ended-is : (first total : ℕ) (plans : List (List ℕ)) → pageText (ascii "result listed\ntotal ") first total plans ≡ answerText (ended first total plans)
+unfolding answerText
+ended-is first total plans = refl
+
+pub goes-on-is : (first met : ℕ) (plans : List (List ℕ)) → pageText (ascii "result listed\ntotal at least ") first met plans ≡ answerText (goesOn first met plans)
+unfolding answerText
+goes-on-is first met plans = refl
+
+pub turns-is : (first met : ℕ) (plans : List (List ℕ)) → pageText (ascii "result turns\ntotal at least ") first met plans ≡ answerText (turns first met plans)
+unfolding answerText
+turns-is first met plans = refl
 
 -- a clash and a refusal are said as every program says them
 pub clash-is : clashText ≡ answerText clash

@@ -3,9 +3,9 @@ use mathlib.Core.Path.{_≡_, sym, ap, _∙_}
 use mathlib.Core.List.{List}
 use Prim.Native.Nat.{ℕ}
 use Rattle.texts.specs.Put.{Pool, pool}
-use Rattle.plans_lines.specs.Pages.{putListed}
+use Rattle.plans_lines.specs.Pages.{putPage}
 
-pub one-listed : (text : List ℕ) (first total nodes count choices : ℕ) (page : List ℕ) {text′ other : List ℕ} {next place : ℕ}
-    → pool text′ next ≡ putListed text first total nodes count choices page → pool other place ≡ putListed text first total nodes count choices page
+pub one-page : (text head : List ℕ) (first number count choices : ℕ) (page : List ℕ) {text′ other : List ℕ} {next place : ℕ}
+    → pool text′ next ≡ putPage text head first number count choices page → pool other place ≡ putPage text head first number count choices page
     → (text′ ≡ other) × (next ≡ place)
-one-listed text first total nodes count choices page p q = let e = p ∙ sym q in (ap (λ (z : Pool). z .bytes) e, ap (λ (z : Pool). z .next) e)
+one-page text head first number count choices page p q = let e = p ∙ sym q in (ap (λ (z : Pool). z .bytes) e, ap (λ (z : Pool). z .next) e)

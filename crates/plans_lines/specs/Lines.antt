@@ -5,10 +5,11 @@ use Prim.Native.Nat.{ℕ, _+_}
 use lib.Dec.{eqb}
 use Rattle.texts.specs.Text.{ascii, decimal, numberLine, clashText, refusedText}
 
--- listed, with the first number, the total, the nodes and the page; out of turns, with the budget; a clash; or refused with 01's number
+-- the list ends with the page, with the first number, the total and the page; it goes on after the page, with the plans met; out of turns, with the plans met and those of the page among them; a clash; or refused with 01's number
 pub data Answer : Type 0 where
-  listed : ℕ → ℕ → ℕ → List (List ℕ) → Answer
-  turns : ℕ → Answer
+  ended : ℕ → ℕ → List (List ℕ) → Answer
+  goesOn : ℕ → ℕ → List (List ℕ) → Answer
+  turns : ℕ → ℕ → List (List ℕ) → Answer
   clash : Answer
   refused : ℕ → Answer
 
@@ -25,10 +26,14 @@ unfoldable pub planLines : ℕ → List (List ℕ) → List ℕ
 planLines number [] = []
 planLines number (plan ∷ plans) = planLine number plan ++ planLines (number + 1) plans
 
+-- a head with a number at its end, then the plans
+unfoldable pub pageText : List ℕ → ℕ → ℕ → List (List ℕ) → List ℕ
+pageText head first number plans = numberLine head number ++ planLines first plans
+
 -- line one, and what comes after it
 unfoldable pub answerText : Answer → List ℕ
-answerText (listed first total nodes plans) =
-    ascii "result listed\n" ++ (numberLine (ascii "total ") total ++ (numberLine (ascii "nodes ") nodes ++ planLines first plans))
-answerText (turns budget) = ascii "result turns\n" ++ numberLine (ascii "nodes ") budget
+answerText (ended first total plans) = pageText (ascii "result listed\ntotal ") first total plans
+answerText (goesOn first met plans) = pageText (ascii "result listed\ntotal at least ") first met plans
+answerText (turns first met plans) = pageText (ascii "result turns\ntotal at least ") first met plans
 answerText clash = clashText
 answerText (refused number) = refusedText number

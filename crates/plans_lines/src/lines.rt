@@ -8,8 +8,8 @@ ghost use Prim.Native.Nat.{_+_, _*_, _≤_, _<_, _^_};
 ghost use lib.ListN.{length};
 ghost use Rattle.texts.specs.Put.{pool, putAt};
 ghost use Rattle.texts.specs.steps.Put.{Fits, Put};
-ghost use Rattle.plans_lines.specs.Lines.{placeText, planLine, planLines, answerText, listed, turns};
-ghost use Rattle.plans_lines.specs.Pages.{plansIn, putListed};
+ghost use Rattle.plans_lines.specs.Lines.{placeText, planLine, planLines, pageText};
+ghost use Rattle.plans_lines.specs.Pages.{plansIn, putPage};
 
 // One place of a plan: a slot, or `out`.
 fn put_place(text: &mut [u8], at: usize, place: u8) -> usize
@@ -70,36 +70,34 @@ fn put_plans(
     next
 }
 
-// `listed`, which has room: the total, the nodes and the plans of the page.
-fn put_fitting_listed(
+// A page that has room: the head with the number at its end, and the plans.
+fn put_fitting_page(
     text: &mut [u8],
+    head: &[u8],
     first: u64,
-    total: u64,
-    nodes: u64,
+    number: u64,
     count: usize,
     choices: usize,
     page: &[u8],
 ) -> usize
-    requires { ⌜ count * choices ≤ length (now page) ⌝ ∗ ⌜ first + count < 2 ^ 64 ⌝ ∗ ⌜ Fits (now text) 0 (answerText (listed first total nodes (plansIn count choices (now page)))) ⌝ }
-    ensures { λ r. ⌜ Put (now (text .entry)) 0 (answerText (listed first total nodes (plansIn count choices (now (page .entry))))) (now (text .exit)) r ⌝ }
+    requires { ⌜ count * choices ≤ length (now page) ⌝ ∗ ⌜ first + count < 2 ^ 64 ⌝ ∗ ⌜ Fits (now text) 0 (pageText (now head) first number (plansIn count choices (now page))) ⌝ }
+    ensures { λ r. ⌜ Put (now (text .entry)) 0 (pageText (now (head .entry)) first number (plansIn count choices (now (page .entry)))) (now (text .exit)) r ⌝ }
 {
-    let total_at = put_bytes(text, 0, b"result listed\n");
-    let nodes_at = put_number_line(text, total_at, b"total ", total);
-    let plans_at = put_number_line(text, nodes_at, b"nodes ", nodes);
+    let plans_at = put_number_line(text, 0, head, number);
     put_plans(text, plans_at, first, count, choices, page)
 }
 
-// `listed`: the total, the nodes and the plans of the page.
-pub fn put_listed(
+// A page: a head of at most 29 bytes with the number at its end, and the plans.
+pub fn put_page(
     text: &mut [u8],
+    head: &[u8],
     first: u64,
-    total: u64,
-    nodes: u64,
+    number: u64,
     count: usize,
     choices: usize,
     page: &[u8],
 ) -> usize
-    ensures { λ r. ⌜ pool (now (text .exit)) r ≡ putListed (now (text .entry)) first total nodes count choices (now (page .entry)) ⌝ }
+    ensures { λ r. ⌜ pool (now (text .exit)) r ≡ putPage (now (text .entry)) (now (head .entry)) first number count choices (now (page .entry)) ⌝ }
 {
     if 1024 < count {
         return 0;
@@ -113,15 +111,11 @@ pub fn put_listed(
     if 18_446_744_073_709_551_615 - first < count as u64 {
         return 0;
     }
-    if text.len() < 288_836 {
+    if 29 < head.len() {
         return 0;
     }
-    put_fitting_listed(text, first, total, nodes, count, choices, page)
-}
-
-// `turns`: the budget that didn't hold.
-pub fn put_turns(text: &mut [u8], budget: u64) -> usize
-    ensures { λ r. ⌜ pool (now (text .exit)) r ≡ putAt (now (text .entry)) 0 (answerText (turns budget)) ⌝ }
-{
-    put_number_line(text, 0, b"result turns\nnodes ", budget)
+    if text.len() < 288_818 {
+        return 0;
+    }
+    put_fitting_page(text, head, first, number, count, choices, page)
 }

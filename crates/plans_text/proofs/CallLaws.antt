@@ -1,81 +1,73 @@
 -- The call: its two refusals, and the text with zeros after it.
-use mathlib.Core.Path.{_≡_, refl, sym, _∙_, ap}
-use mathlib.Core.List.{List}
+use mathlib.Core.Path.{_≡_, refl, sym, _∙_, ap, subst}
+use mathlib.Core.List.{List, []}
 use Prim.Native.Nat.{ℕ, _≤_, _<_}
 use borrow.Author.Tests.{le-leb, lt-leb, eq-eqb, ne-eqb}
 use lib.ListN.{length, replicate}
-use Rattle.constraint.specs.Told.{done, Verdict, refuse, outcome}
+use Rattle.lists.specs.Pool.{pad}
+use Rattle.constraint.specs.Told.{Told, done, refused, good, Outcome, outcome}
 use Rattle.constraint.specs.Told as verdict
-use Rattle.constraint.proofs.ToldLaws.{one-outcome}
 use Rattle.constraint.specs.declared.check.Counts.{Counts}
 use Rattle.constraint.specs.declared.check.Takes.the-variants as takes
 use Rattle.constraint.proofs.CountLaws.{within}
 use Rattle.day_file.specs.Day.{rowCounts}
-use Rattle.day_file.specs.File.{dayIn, longestFile}
+use Rattle.day_file.specs.File.{dayIn}
 use Rattle.day_file.specs.Calls.{fileJudged}
-use Rattle.texts.specs.Put.{pool, putAt}
+use Rattle.texts.specs.Put.{Pool, pool, putAt}
 use Rattle.plans_lines.specs.Lines.{Answer, answerText}
 use Rattle.plans_lines.specs.Pages.{longest}
 use Rattle.plans_lines.proofs.FitLaws.{Modest, answer-fits}
 use Rattle.planner.specs.Prepared.{Prepared, preparedOf}
 use Rattle.planner.specs.Prepared as prepared
-use Rattle.planner.specs.Made.{madeTells}
-use Rattle.planner.specs.declared.made.Made.{Made}
 use Rattle.planner.proofs.FileLaws.{given, ready-good}
-use Rattle.planner.proofs.MadeLaws.{made-whole, madeBack, made-back}
-use Rattle.plans_text.specs.Answer.{searchDay, listAnswer, answerBy, dayListed, answerOf}
-use Rattle.plans_text.specs.Calls.{plansText, textJudged, textOf}
+use Rattle.planner.proofs.MadeLaws.{made-whole}
+use Rattle.plans_text.specs.Answer.{searchDay, Lists, AnsweredBy, fileDay, Answers}
+use Rattle.plans_text.specs.Calls.{Puts, Prints, textJudged, TextFits, refuses, prints}
 use Rattle.plans_text.proofs.ListedLaws.{modest}
 
 -- ---- every answer's text has room
 
 module _ (file : List ℕ) (first room budget : ℕ) (r : room ≤ 1024) where
   -- the listing's, of a good file
-  day-modest : fileJudged file ≡ verdict.good → Modest (dayListed (dayIn file) first room budget)
+  day-modest : fileJudged file ≡ verdict.good → {answer : Answer} → Lists (fileDay file) first room budget answer → Modest answer
   unfolding searchDay
-  day-modest e =
-      let day = dayIn file in
-      let w = within (rowCounts (day .counts)) takes.Given (given file e .in-range) in
-      modest (searchDay (rowCounts (day .counts)) (day .lists .mins) (day .lists .maxs) (day .lists .optional) (day .lists .rows)) first room budget (w .choices) (w .slots) r
+  day-modest e l =
+      let w = within (rowCounts (dayIn file .counts)) takes.Given (given file e .in-range) in
+      modest (fileDay file) first room budget (w .choices) (w .slots) r l
 
-  answer-modest : Modest (answerOf file first room budget)
-  unfolding answerOf
-  answer-modest = go (preparedOf file) refl
+  answer-modest : (answer : Answer) → Answers file first room budget answer → Modest answer
+  unfolding Answers
+  answer-modest answer h = go (preparedOf file) refl h
     where
-      go : (p : Prepared) → preparedOf file ≡ p → Modest (answerBy p (dayListed (dayIn file) first room budget))
-      go prepared.ready e = day-modest (ready-good file (sym e))
-      go prepared.clash e = tt
-      go (prepared.refused number) e = tt
+      go : (p : Prepared) → preparedOf file ≡ p → AnsweredBy p (Lists (fileDay file) first room budget) answer → Modest answer
+      go prepared.ready e l = day-modest (ready-good file (sym e)) l
+      go prepared.clash e a = subst Modest (sym a) tt
+      go (prepared.refused number) e a = subst Modest (sym a) tt
 
   -- no text is longer than the pool that is lent for it
-  pub text-fits : length (plansText file first room budget) ≤ longest
-  unfolding plansText
-  text-fits = answer-fits (answerOf file first room budget) answer-modest
+  pub text-fits : {text : List ℕ} → Prints file first room budget text → length text ≤ longest
+  text-fits p = rw (p .says) (answer-fits (p .answer) (answer-modest (p .answer) (p .may)))
 
 -- ---- the call
 
-module _ (file : List ℕ) (first room budget : ℕ) (pool′ : List ℕ) where
-  pub text-room : 1024 < room → outcome (refuse 1) pool′ ≡ textOf file first room budget pool′
-  unfolding textOf textJudged
-  text-room h = rw (lt-leb _ _ h)
+-- a text that is put is the text of an answer
+pub puts-as : {May : Answer → Type 0} (answer : Answer) {bytes : List ℕ} → bytes ≡ answerText answer → May answer → {text text′ : List ℕ} {size : ℕ}
+    → pool text′ size ≡ putAt text 0 bytes → Puts May text text′ size
+puts-as answer e m {text} w = record { answer = answer; may = m; put = w ∙ ap (putAt text 0) e }
 
-  pub text-length : room ≤ 1024 → (length pool′ ≡ longest → ⊥) → outcome (refuse 2) pool′ ≡ textOf file first room budget pool′
-  unfolding textOf textJudged
-  text-length r n = rw (le-leb _ _ r, ne-eqb _ _ n)
+module _ (file : List ℕ) (first room budget : ℕ) (pool′ : List ℕ) where
+  pub text-room : 1024 < room → TextFits file first room budget pool′ (refused 1 []) pool′
+  unfolding textJudged
+  text-room h = refuses 1 [] (rw (lt-leb _ _ h))
+
+  pub text-length : room ≤ 1024 → (length pool′ ≡ longest → ⊥) → TextFits file first room budget pool′ (refused 2 []) pool′
+  unfolding textJudged
+  text-length r n = refuses 2 [] (rw (le-leb _ _ r, ne-eqb _ _ n))
 
   pub text-made : room ≤ 1024 → length pool′ ≡ longest → {cleared after : List ℕ} {size : ℕ} → cleared ≡ replicate (length pool′) 0
-      → pool after size ≡ putAt cleared 0 (plansText file first room budget) → outcome (done size) after ≡ textOf file first room budget pool′
-  unfolding textOf textJudged
-  text-made r e z w =
-      rw (le-leb _ _ r, eq-eqb _ _ e) (made-whole longest (plansText file first room budget) pool′ (text-fits file first room budget r) e z w)
-
-  -- a text by its answer
-  pub text-of : {answer : Answer} → answer ≡ answerOf file first room budget → answerText answer ≡ plansText file first room budget
-  unfolding plansText
-  text-of e = ap answerText e
-
--- no two outcomes fit the promise of the text
-pub one-text : (file : List ℕ) (first room budget : ℕ) (pool : List ℕ) {answer other : Made} {text rest : List ℕ}
-    → outcome (madeTells answer) text ≡ textOf file first room budget pool → outcome (madeTells other) rest ≡ textOf file first room budget pool
-    → (answer ≡ other) × (text ≡ rest)
-one-text file first room budget pool = one-outcome madeTells madeBack made-back
+      → Puts (Answers file first room budget) cleared after size → TextFits file first room budget pool′ (done size) after
+  unfolding textJudged
+  text-made r e {cleared} {after} {size} z p =
+      let shown : Prints file first room budget (answerText (p .answer)) = record { answer = p .answer; may = p .may; says = refl } in
+      let w : outcome (done size) after ≡ outcome (done (length (answerText (p .answer)))) (pad longest (answerText (p .answer))) = made-whole longest (answerText (p .answer)) pool′ (text-fits file first room budget r shown) e z (p .put) in
+      subst (λ (o : Outcome ℕ (List ℕ)). TextFits file first room budget pool′ (o .answer) (o .buffers)) (sym w) (prints (rw (le-leb _ _ r, eq-eqb _ _ e)) (answerText (p .answer)) shown)

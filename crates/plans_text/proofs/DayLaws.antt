@@ -1,5 +1,5 @@
--- What a day that is read and reduced answers, and that the listing takes it.
-use mathlib.Core.Path.{_≡_, refl, sym, _∙_, ap}
+-- What a day that is read and reduced may answer, and that the listing takes it.
+use mathlib.Core.Path.{_≡_, refl, sym, _∙_, ap, subst}
 use mathlib.Core.Bool.{Bool}
 use mathlib.Core.List.{List}
 use Prim.Native.Nat.{ℕ, _*_, _≤_}
@@ -26,26 +26,34 @@ use Rattle.planner.specs.steps.Given.{Given}
 use Rattle.planner.proofs.SearchLaws.{search-good}
 use Rattle.planner.proofs.ReduceLaws.{Reduces, searches-are, searches-front, searches-few}
 use Rattle.planner.proofs.FileLaws.{Filled, prepared-day, counts-are, mins-lent, maxs-lent, optional-lent, rows-lent}
-use Rattle.plans_text.specs.Answer.{searchDay, listAnswer, answerBy, reduceAnswer, dayListed, answerOf}
+use Rattle.plans_text.specs.Answer.{searchDay, Lists, AnsweredBy, ReduceAnswers, fileDay, Answers}
+use Rattle.plans_text.specs.Calls.{Puts}
 
 -- ---- the reduction of a day
 
 module _ (counts : Counts) (mins maxs optional rows : List ℕ) (first room budget : ℕ) where
-  -- the listing of the day
-  abbrev list : Answer
-  list = listAnswer (searchDay counts mins maxs optional rows) first room budget
+  -- what the listing of the day may answer
+  abbrev May : Answer → Type 0
+  May = Lists (searchDay counts mins maxs optional rows) first room budget
 
-  pub reduce-refused : {number : ℕ} → prepared.refused number ≡ reducedTo counts rows → refused number ≡ reduceAnswer counts mins maxs optional rows first room budget
-  unfolding reduceAnswer
-  reduce-refused e = ap (λ (p : Prepared). answerBy p list) e
+  pub reduce-refused : {number : ℕ} → prepared.refused number ≡ reducedTo counts rows → ReduceAnswers counts mins maxs optional rows first room budget (refused number)
+  unfolding ReduceAnswers
+  reduce-refused {number} e = subst (λ (p : Prepared). AnsweredBy p May (refused number)) e refl
 
-  pub reduce-clash : prepared.clash ≡ reducedTo counts rows → clash ≡ reduceAnswer counts mins maxs optional rows first room budget
-  unfolding reduceAnswer
-  reduce-clash e = ap (λ (p : Prepared). answerBy p list) e
+  pub reduce-clash : prepared.clash ≡ reducedTo counts rows → ReduceAnswers counts mins maxs optional rows first room budget clash
+  unfolding ReduceAnswers
+  reduce-clash e = subst (λ (p : Prepared). AnsweredBy p May clash) e refl
 
-  pub reduce-ready : prepared.ready ≡ reducedTo counts rows → listAnswer (searchDay counts mins maxs optional rows) first room budget ≡ reduceAnswer counts mins maxs optional rows first room budget
-  unfolding reduceAnswer
-  reduce-ready e = ap (λ (p : Prepared). answerBy p list) e
+  reduce-ready : prepared.ready ≡ reducedTo counts rows → {answer : Answer} → Lists (searchDay counts mins maxs optional rows) first room budget answer
+      → ReduceAnswers counts mins maxs optional rows first room budget answer
+  unfolding ReduceAnswers
+  reduce-ready e {answer} l = subst (λ (p : Prepared). AnsweredBy p May answer) e l
+
+  -- the text of the day that is listed is the text of the day that is reduced
+  pub reduce-puts : prepared.ready ≡ reducedTo counts rows → {day : Day} → day ≡ searchDay counts mins maxs optional rows → {text text′ : List ℕ} {size : ℕ}
+      → Puts (Lists day first room budget) text text′ size → Puts (ReduceAnswers counts mins maxs optional rows first room budget) text text′ size
+  reduce-puts e d p =
+      record { answer = p .answer; may = reduce-ready e (subst (λ (day : Day). Lists day first room budget (p .answer)) d (p .may)); put = p .put }
 
 module _ (counts : Counts) (mins maxs optional rows : List ℕ) (g : Given counts mins maxs optional rows) where
   -- the listing refuses no day that was read and reduced
@@ -77,15 +85,24 @@ module _ (counts : Counts) (mins maxs optional rows : List ℕ) (g : Given count
 -- ---- a file
 
 module _ (file : List ℕ) (first room budget : ℕ) where
-  pub answer-refused : {number : ℕ} → prepared.refused number ≡ preparedOf file → refused number ≡ answerOf file first room budget
-  unfolding answerOf
-  answer-refused e = ap (λ (p : Prepared). answerBy p (dayListed (dayIn file) first room budget)) e
+  pub answer-refused : {number : ℕ} → prepared.refused number ≡ preparedOf file → Answers file first room budget (refused number)
+  unfolding Answers
+  answer-refused {number} e = subst (λ (p : Prepared). AnsweredBy p (Lists (fileDay file) first room budget) (refused number)) e refl
 
   module _ (short : length file ≤ longestFile) {counts : DayCounts} {mins maxs optional levels preferences rows : List ℕ} (f : Filled file counts (parts mins maxs optional levels preferences rows)) where
-    good-answer : reduceAnswer (rowCounts (countsIn file)) (listsIn file (countsIn file) .mins) (listsIn file (countsIn file) .maxs) (listsIn file (countsIn file) .optional) (listsIn file (countsIn file) .rows) first room budget ≡ answerOf file first room budget
-    unfolding answerOf reduceAnswer
-    good-answer = ap (λ (p : Prepared). answerBy p (dayListed (dayIn file) first room budget)) (prepared-day file short (f .is-good))
+    good-answer : (answer : Answer)
+        → ReduceAnswers (rowCounts (countsIn file)) (listsIn file (countsIn file) .mins) (listsIn file (countsIn file) .maxs) (listsIn file (countsIn file) .optional) (listsIn file (countsIn file) .rows) first room budget answer
+        → Answers file first room budget answer
+    unfolding Answers ReduceAnswers
+    good-answer answer h = subst (λ (p : Prepared). AnsweredBy p (Lists (fileDay file) first room budget) answer) (prepared-day file short (f .is-good)) h
 
-    pub day-answer : {asked : Counts} → asked ≡ rowCounts counts
-        → reduceAnswer asked (take (counts .choices) mins) (take (counts .choices) maxs) (take (counts .choices) optional) (take (counts .rows) rows) first room budget ≡ answerOf file first room budget
-    day-answer a = rw (counts-are file f a, mins-lent file f, maxs-lent file f, optional-lent file f, rows-lent file f) good-answer
+    day-answer : {asked : Counts} → asked ≡ rowCounts counts → (answer : Answer)
+        → ReduceAnswers asked (take (counts .choices) mins) (take (counts .choices) maxs) (take (counts .choices) optional) (take (counts .rows) rows) first room budget answer
+        → Answers file first room budget answer
+    day-answer a answer h = good-answer answer (rw (counts-are file f a, mins-lent file f, maxs-lent file f, optional-lent file f, rows-lent file f) at h)
+
+    -- the text of the day that is read is the file's
+    pub day-puts : {asked : Counts} → asked ≡ rowCounts counts → {text text′ : List ℕ} {size : ℕ}
+        → Puts (ReduceAnswers asked (take (counts .choices) mins) (take (counts .choices) maxs) (take (counts .choices) optional) (take (counts .rows) rows) first room budget) text text′ size
+        → Puts (Answers file first room budget) text text′ size
+    day-puts a p = record { answer = p .answer; may = day-answer a (p .answer) (p .may); put = p .put }

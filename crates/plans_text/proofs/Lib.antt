@@ -2,3 +2,4 @@
 pub mod ListedLaws
 pub mod DayLaws
 pub mod CallLaws
+pub mod Settled

@@ -1,38 +1,42 @@
--- What the listing of a judged day answers, and how long its text may be.
+-- What the listing of a judged day may answer, and how long its text may be.
 use mathlib.Core.Path.{_≡_, refl, sym, _∙_, ap, subst}
-use mathlib.Core.Bool.{Bool, true, false, cond}
-use mathlib.Core.List.{List, [], _∷_, _++_, map, flatten, append-assoc, List·Memᴰ, List·Memᴰ·head, List·Memᴰ·tail, List·Memᴰ·cases-cons, List·Memᴰ·not-nil, List·Memᴰ·eq-of-singleton, List·Memᴰ·append-cases}
+use mathlib.Core.Bool.{Bool, true, false}
+use mathlib.Core.List.{List, [], _∷_, _++_, map, flatten, append-assoc, List·Memᴰ, List·Memᴰ·cases-cons, List·Memᴰ·not-nil, List·Memᴰ·eq-of-singleton, List·Memᴰ·append-cases}
 use mathlib.Core.Logic.{_⊎_, ⊎-elim}
 use Prim.Native.Nat.{ℕ, zero, suc, _+_, _-_, _*_, _≤_, _<_, _^_, min}
 use native.Mathlib.Nat.{mul-le-mul-right, suc-mul, zero-mul}
 use native.Mathlib.Omega.{arith}
+use borrow.Author.Tests.{leb-true, leb-false}
 use lib.Dec.{leb}
 use lib.ListN.{length, take, drop, length-append, length-take, length-drop}
-use lib.Seq.{take-at, drop-at, sets, sets-eq, length-sets, length-take-le}
+use lib.Seq.{take-at, drop-at, take-all, take-length, sets, sets-eq, length-sets, length-take-le}
 use Rattle.lists.proofs.Keep.{in-map, in-flatMap, kept-in}
 use Rattle.constraint.specs.Check.{countsInRange, rowsJudged}
 use Rattle.constraint.specs.declared.refusal.Refusal.{Refusal}
-use Rattle.constraint.specs.Told.{Told, done, refused, Verdict, good, unless, andThen, Outcome, outcome}
-use Rattle.constraint.proofs.ToldLaws.{done-is, refused-not-done, unless-done}
+use Rattle.constraint.specs.Told.{Told, done, refused, Verdict, good, unless, andThen}
+use Rattle.constraint.proofs.ToldLaws.{refused-not-done, unless-done}
 use Rattle.constraint.specs.declared.check.Takes.the-variants as takes
 use Rattle.constraint.proofs.CountLaws.{within}
 use Rattle.scheduling.specs.Day.{Day}
 use Rattle.scheduling.specs.Check.{flagsJudged}
 use Rattle.scheduling.specs.Feasible.{feasible}
 use Rattle.listing_nodes.specs.Placements.{slotsFrom, places, placements, plans, page, total, nodes}
-use Rattle.listing.specs.Outcome.{PageTold, plansTold, turnsTold, listedTells, listedOf, listOf}
 use Rattle.listing_nodes.specs.Judge.{lengthsFit, judgeOf}
-use Rattle.listing.specs.declared.list_plans.Listed.{Listed}
-use Rattle.listing.specs.declared.list_plans.Listed.the-variants as listedCase
-use Rattle.listing.proofs.CallLaws.{good-told}
 use Rattle.listing_nodes.proofs.Members.{placement-length, sized-plans}
 use Rattle.listing_nodes.proofs.PageLaws.{Sized, none, more, page-length}
-use Rattle.texts.specs.Put.{Pool, putAt}
-use Rattle.plans_lines.specs.Lines.{Answer, listed, turns, answerText}
-use Rattle.plans_lines.specs.Pages.{plansIn, putListed}
-use Rattle.plans_lines.proofs.PageLaws.{listed-put}
+use Rattle.alive_starts.specs.Page.{PageTold, endedTold, goesOnTold, turnsTold, pagePut, Gives, ended, goes-on, out}
+use Rattle.page_answers.specs.Page.{pagedTells}
+use Rattle.plan_walk.specs.Page.{Fits, refuses, gives}
+use Rattle.page_answers.specs.declared.page.Paged.{Paged}
+use Rattle.page_answers.specs.declared.page.Paged.the-variants as paged
+use Rattle.texts.specs.Put.{Pool, pool, putAt}
+use Rattle.plans_lines.specs.Lines.{Answer, pageText, answerText}
+use Rattle.plans_lines.specs.Lines as answer
+use Rattle.plans_lines.specs.Pages.{plansIn, putPage}
+use Rattle.plans_lines.proofs.PageLaws.{page-put}
 use Rattle.plans_lines.proofs.FitLaws.{Modest, member-drop, member-take}
-use Rattle.plans_text.specs.Answer.{listAnswer}
+use Rattle.plans_text.specs.Answer.{Lists, lists-all, lists-page, lists-some}
+use Rattle.plans_text.specs.Calls.{Puts}
 
 -- ---- parts of a list
 
@@ -86,6 +90,36 @@ placement-under slots (suc n) plan few m place k =
     (λ h. placement-under slots n (q .0) few (q .1) place h)
     (List·Memᴰ·cases-cons (subst (List·Memᴰ place) (q .2) k))
 
+-- each plan of a page has at most 64 places, each a byte
+page-member : (day : Day) (first room : ℕ) → day .counts .choices ≤ 64 → day .counts .slots ≤ 24 → (plan : List ℕ) → List·Memᴰ plan (page day first room)
+    → (length plan ≤ 64) × ((place : ℕ) → List·Memᴰ place plan → place < 256)
+unfolding page plans
+page-member day first room choices slots plan m =
+    let k = kept-in (feasible day) (placements (day .counts .slots) (day .counts .choices)) plan (member-drop first (plans day) plan (member-take room (drop first (plans day)) plan m)) in (
+      let e = placement-length (day .counts .slots) (day .counts .choices) plan (k .0) in omega (arith, e),
+      placement-under (day .counts .slots) (day .counts .choices) plan slots (k .0),
+    )
+
+-- ---- what a page tells, as an answer
+
+-- the plans written
+abbrev pub written : PageTold → ℕ
+written (endedTold count all) = count
+written (goesOnTold count met) = count
+written (turnsTold count met) = count
+
+-- the number told
+abbrev pub number : PageTold → ℕ
+number (endedTold count all) = all
+number (goesOnTold count met) = met
+number (turnsTold count met) = met
+
+-- the answer with these plans
+abbrev pub answerWith : ℕ → PageTold → List (List ℕ) → Answer
+answerWith first (endedTold count all) plans = answer.ended first all plans
+answerWith first (goesOnTold count met) plans = answer.goesOn first met plans
+answerWith first (turnsTold count met) plans = answer.turns first met plans
+
 -- ---- the page of a day
 
 module _ (day : Day) (first room budget : ℕ) where
@@ -97,104 +131,100 @@ module _ (day : Day) (first room budget : ℕ) where
   unfolding page
   page-sized = sized-take _ room (drop first (plans day)) (sized-drop _ first (plans day) (sized-plans day))
 
-  -- the last number on the page is under the total
-  page-numbers : {all : ℕ} → all ≡ total day → first < 2 ^ 64 → all < 2 ^ 64 → first + length (page day first room) < 2 ^ 64
+  page-count : length (page day first room) ≡ min room (total day - first)
   unfolding page total
-  page-numbers e f a = omega (arith, page-length first room (plans day), e)
+  page-count = page-length first room (plans day)
 
-  -- a text has room for the answer
-  pub modest : day .counts .choices ≤ 64 → day .counts .slots ≤ 24 → room ≤ 1024 → Modest (listAnswer day first room budget)
-  unfolding listAnswer page plans
-  modest choices slots rooms = go (leb (nodes day) budget)
+  -- so many of the page, and at most the room, are so many of it
+  page-part : (count : ℕ) → take (min room count) (page day first room) ≡ take count (page day first room)
+  page-part count = go (leb count room) refl
     where
-      member : (plan : List ℕ) → List·Memᴰ plan (page day first room) → (length plan ≤ 64) × ((place : ℕ) → List·Memᴰ place plan → place < 256)
-      member plan m =
-          let k = kept-in (feasible day) (placements (day .counts .slots) (day .counts .choices)) plan (member-drop first (plans day) plan (member-take room (drop first (plans day)) plan m)) in (
-            let e = placement-length (day .counts .slots) (day .counts .choices) plan (k .0) in omega (arith, e),
-            placement-under (day .counts .slots) (day .counts .choices) plan slots (k .0),
-          )
+      go : (b : Bool) → leb count room ≡ b → take (min room count) (page day first room) ≡ take count (page day first room)
+      go true t =
+          let h : count ≤ room = leb-true count room t in
+          let m : min room count ≡ count = omega arith in
+          rw m
+      go false t =
+          let h : room < count = leb-false count room t in
+          let m : min room count ≡ room = omega arith in
+          let f = page-few in
+          rw m (take-all room (page day first room) f ∙ sym (take-all count (page day first room) (omega (arith, f, h))))
 
-      go : (b : Bool) → Modest (cond b (listed first (total day) (nodes day) (page day first room)) (turns budget))
-      go true = (let h = page-few in omega (arith, h), member)
-      go false = tt
+  -- a text has room for every answer
+  pub modest : day .counts .choices ≤ 64 → day .counts .slots ≤ 24 → room ≤ 1024 → {answer : Answer} → Lists day first room budget answer → Modest answer
+  modest choices slots rooms (lists-all c t) = (let h = page-few in omega (arith, h), page-member day first room choices slots)
+  modest choices slots rooms (lists-page r l) = (let h = page-few in omega (arith, h), page-member day first room choices slots)
+  modest choices slots rooms (lists-some met n l o) = (
+    let h = page-few in let t = length-take (met - first) (page day first room) in omega (arith, h, t),
+    λ plan m. page-member day first room choices slots plan (member-take (met - first) (page day first room) plan m),
+  )
 
   -- ---- the call on a judged day
 
-  module _ (buffer : List ℕ) (is-good : judgeOf day room (length buffer) ≡ good) where
-    abbrev Left : Type 0
-    Left = Outcome PageTold (List ℕ)
+  module _ (buffer : List ℕ) where
+    -- what the call's promise comes to, case by case
+    abbrev Within : Told PageTold → List ℕ → Type 0
+    Within (done told) buffer' = Gives day first room budget buffer told buffer'
+    Within (refused why carried) buffer' = judgeOf day room (length buffer) ≡ refused why carried
 
-    told : {answer : Told PageTold} {buffer' : List ℕ} → outcome answer buffer' ≡ listOf day first room budget buffer → outcome answer buffer' ≡ listedOf day first room budget buffer
-    told e = e ∙ sym (good-told day first room budget buffer is-good)
+    within-fits : {told : Told PageTold} {buffer' : List ℕ} → Fits day first room budget buffer told buffer' → Within told buffer'
+    within-fits (refuses why carried e) = e
+    within-fits (gives j told buffer' g) = g
 
-    pub record Lists (written all visited : ℕ) (buffer' : List ℕ) : Type 0 where
-      pub answered : listed first all visited (page day first room) ≡ listAnswer day first room budget
-      pub pages : written ≡ length (page day first room)
-      pub totals : all ≡ total day
-      pub stored : buffer' ≡ sets buffer 0 (flatten (page day first room))
-
-    -- what the listing leaves: the page, or nothing but that turns ran out
-    abbrev page-left : Left
-    page-left = outcome (done (plansTold (length (page day first room)) (total day) (nodes day))) (sets buffer 0 (flatten (page day first room)))
-
-    abbrev turns-left : Left
-    turns-left = outcome (done turnsTold) buffer
-
-    pub plans-listed : {written all visited : ℕ} {buffer' : List ℕ} → outcome (done (plansTold written all visited)) buffer' ≡ listOf day first room budget buffer → Lists written all visited buffer'
-    unfolding listedOf listAnswer
-    plans-listed {written} {all} {visited} {buffer'} e = go (leb (nodes day) budget) refl (told e)
-      where
-        go : (b : Bool) → leb (nodes day) budget ≡ b → outcome (done (plansTold written all visited)) buffer' ≡ cond b page-left turns-left → Lists written all visited buffer'
-        go true t h =
-            let a : plansTold written all visited ≡ plansTold (length (page day first room)) (total day) (nodes day) = done-is (ap (λ (o : Left). o .answer) h) in
-            let w : written ≡ length (page day first room) = cc in
-            let l : all ≡ total day = cc in
-            let v : visited ≡ nodes day = cc in
-            record { answered = rw (t, l, v); pages = w; totals = l; stored = ap (λ (o : Left). o .buffers) h }
-        go false t h =
-            let a : plansTold written all visited ≡ turnsTold = done-is (ap (λ (o : Left). o .answer) h) in
-            let z : _≡_ {A = ℕ} 0 1 = cc in
-            absurd (omega arith)
-
-    pub turns-listed : {buffer' : List ℕ} → outcome (done turnsTold) buffer' ≡ listOf day first room budget buffer → turns budget ≡ listAnswer day first room budget
-    unfolding listedOf listAnswer
-    turns-listed {buffer'} e = go (leb (nodes day) budget) (told e)
-      where
-        go : (b : Bool) → outcome (done turnsTold) buffer' ≡ cond b page-left turns-left → turns budget ≡ cond b (listed first (total day) (nodes day) (page day first room)) (turns budget)
-        go true h =
-            let a : turnsTold ≡ plansTold (length (page day first room)) (total day) (nodes day) = done-is (ap (λ (o : Left). o .answer) h) in
-            let z : _≡_ {A = ℕ} 0 1 = cc in
-            absurd (omega arith)
-        go false h = refl
-
-    -- a judged day is not refused
-    pub none-refused : {number : ℕ} {carried buffer' : List ℕ} → outcome (refused number carried) buffer' ≡ listOf day first room budget buffer → ⊥
-    unfolding listedOf
-    none-refused {number} {carried} {buffer'} e = go (leb (nodes day) budget) (told e)
-      where
-        go : (b : Bool) → outcome (refused number carried) buffer' ≡ cond b page-left turns-left → ⊥
-        go true h = refused-not-done (ap (λ (o : Left). o .answer) h)
-        go false h = refused-not-done (ap (λ (o : Left). o .answer) h)
-
-    -- the plans of the page lie at the front of what is lent
-    module _ (size : length buffer ≡ room * day .counts .choices) {written all visited : ℕ} {buffer' : List ℕ} (l : Lists written all visited buffer') where
-      flat-fits : 0 + length (flatten (page day first room)) ≤ length buffer
-      flat-fits =
-          let e = sized-length (day .counts .choices) (page day first room) page-sized in
-          let m : length (page day first room) * day .counts .choices ≤ room * day .counts .choices = mul-le-mul-right (day .counts .choices) page-few in
+    module _ (size : length buffer ≡ room * day .counts .choices) where
+      flat-fits : (count : ℕ) → 0 + length (flatten (take count (page day first room))) ≤ length buffer
+      flat-fits count =
+          let front = take count (page day first room) in
+          let e = sized-length (day .counts .choices) front (sized-take _ count (page day first room) page-sized) in
+          let f : length front ≤ room = let h = page-few in let t = length-take count (page day first room) in omega (arith, h, t) in
+          let m : length front * day .counts .choices ≤ room * day .counts .choices = mul-le-mul-right (day .counts .choices) f in
           omega (arith, e, m, size)
 
-      pub plans-stored : (rest : List ℕ) → plansIn written (day .counts .choices) (buffer' ++ rest) ≡ page day first room
-      plans-stored rest =
-          ap (λ (n : ℕ). plansIn n (day .counts .choices) (buffer' ++ rest)) (l .pages)
-          ∙ plans-in (day .counts .choices) (page day first room) (buffer' ++ rest) (drop (0 + length (flatten (page day first room))) buffer ++ rest) page-sized
-          (ap (λ (b : List ℕ). b ++ rest) (l .stored ∙ sets-eq (flatten (page day first room)) buffer 0 flat-fits) ∙ append-assoc (flatten (page day first room)) _ rest)
+      -- the plans written are read back from the front of what is lent
+      plans-stored : (count : ℕ) (rest : List ℕ) → count ≤ length (page day first room)
+          → plansIn count (day .counts .choices) (pagePut day first room budget buffer count ++ rest) ≡ take count (page day first room)
+      unfolding pagePut
+      plans-stored count rest h =
+          let front = take count (page day first room) in
+          let n : length front ≡ count = length-take-le count (page day first room) h in
+          ap (λ (k : ℕ). plansIn k (day .counts .choices) (sets buffer 0 (flatten front) ++ rest)) (sym n)
+          ∙ plans-in (day .counts .choices) front (sets buffer 0 (flatten front) ++ rest) (drop (0 + length (flatten front)) buffer ++ rest) (sized-take _ count (page day first room) page-sized)
+          (ap (λ (b : List ℕ). b ++ rest) (sets-eq (flatten front) buffer 0 (flat-fits count)) ∙ append-assoc (flatten front) _ rest)
 
-      pub written-few : written ≤ room
-      written-few = let h = page-few in omega (arith, h, l .pages)
+      stored-length : (count : ℕ) → length (pagePut day first room budget buffer count) ≡ length buffer
+      unfolding pagePut
+      stored-length count = length-sets buffer 0 (flatten (take count (page day first room)))
 
-      pub numbers-fit : first < 2 ^ 64 → all < 2 ^ 64 → first + written < 2 ^ 64
-      numbers-fit f a = let h = page-numbers (l .totals) f a in omega (arith, h, l .pages)
+      pub record Shows (told : PageTold) (buffer' : List ℕ) : Type 0 where
+        pub listed : number told < 2 ^ 64 → (rest : List ℕ) → Lists day first room budget (answerWith first told (plansIn (written told) (day .counts .choices) (buffer' ++ rest)))
+        pub few : written told ≤ room
+        pub numbered : first < 2 ^ 64 → number told < 2 ^ 64 → first + written told < 2 ^ 64
+        pub same : length buffer' ≡ length buffer
+
+      pub shows : {told : PageTold} {buffer' : List ℕ} → Gives day first room budget buffer told buffer' → Shows told buffer'
+      shows (ended c) =
+          record {
+            listed = λ t rest. rw (plans-stored (length (page day first room)) rest (omega arith), take-length (page day first room)) (lists-all c t);
+            few = page-few;
+            numbered = λ f n. let k = page-count in omega (arith, f, n, k);
+            same = stored-length (length (page day first room));
+          }
+      shows (goes-on r l) =
+          let k = page-count in
+          record {
+            listed = λ t rest. rw (plans-stored room rest (omega (arith, k, l)), take-all room (page day first room) page-few) (lists-page r l);
+            few = omega arith;
+            numbered = λ f n. omega (arith, n);
+            same = stored-length room;
+          }
+      shows (out met n l o) =
+          let k = page-count in
+          record {
+            listed = λ t rest. rw (plans-stored (min room (met - first)) rest (omega (arith, k, l)), page-part (met - first)) (lists-some met n l o);
+            few = omega arith;
+            numbered = λ f m. omega (arith, f, m);
+            same = stored-length (min room (met - first));
+          }
 
 -- ---- the call as the text's maker makes it: a page of 65,536 bytes, of which it lends as many as the room asks for
 
@@ -223,48 +253,46 @@ module _ (day : Day) (first room budget : ℕ) (is-good : judgeOf day room (room
   lent-good : judgeOf day room (length (take size array)) ≡ good
   lent-good = ap (judgeOf day room) lent-length ∙ is-good
 
-  module _ {result : Listed} {lent : List ℕ} (e : outcome (listedTells result) lent ≡ listOf day first room budget (take size array)) where
-    -- the plans
-    module _ {written all visited : ℕ} (t : result ≡ listedCase.Plans written all visited) where
-      lists : Lists day first room budget (take size array) lent-good written all visited lent
-      lists = plans-listed day first room budget (take size array) lent-good (ap (λ (r : Listed). outcome (listedTells r) lent) (sym t) ∙ e)
-
-      page-listed : listed first all visited (plansIn written (day .counts .choices) (lent ++ drop size array)) ≡ listAnswer day first room budget
-      page-listed =
-          ap (listed first all visited) (plans-stored day first room budget (take size array) lent-good lent-length lists (drop size array))
-          ∙ lists .answered
+  module _ (result : Paged) {lent : List ℕ} (e : Fits day first room budget (take size array) (pagedTells result) lent) where
+    -- a page, told in one of the three ways
+    module _ (told : PageTold) (t : pagedTells result ≡ done told) where
+      shown : Shows day first room budget (take size array) lent-length told lent
+      shown =
+          shows day first room budget (take size array) lent-length
+          (subst (λ (z : Told PageTold). Within day first room budget (take size array) z lent) t (within-fits day first room budget (take size array) e))
 
       pub page-whole : length (lent ++ drop size array) ≡ 65536
       page-whole =
           length-append lent (drop size array)
-          ∙ let a = ap length (lists .stored) ∙ length-sets (take size array) 0 (flatten (page day first room)) ∙ lent-length in
+          ∙ let a = shown .same ∙ lent-length in
           let b = length-drop size array in
           let p = page-fits in
           omega (arith, a, b, p, full)
 
-      page-holds : written * day .counts .choices ≤ length (lent ++ drop size array)
+      page-holds : written told * day .counts .choices ≤ length (lent ++ drop size array)
       page-holds =
-          let w : written * day .counts .choices ≤ room * day .counts .choices = mul-le-mul-right (day .counts .choices) (written-few day first room budget (take size array) lent-good lent-length lists) in
+          let w : written told * day .counts .choices ≤ room * day .counts .choices = mul-le-mul-right (day .counts .choices) (shown .few) in
           let p = page-size in
           let l = page-whole in
           omega (arith, w, p, l)
 
-      page-numbered : first < 2 ^ 64 → all < 2 ^ 64 → first + written < 2 ^ 64
-      page-numbered = numbers-fit day first room budget (take size array) lent-good lent-length lists
-
       -- its text is put
-      pub page-put : (text : List ℕ) → length text ≡ 288836 → first < 2 ^ 64 → all < 2 ^ 64 → {put : Pool}
-          → put ≡ putListed text first all visited written (day .counts .choices) (lent ++ drop size array) → put ≡ putAt text 0 (answerText (listAnswer day first room budget))
-      page-put text l f a e =
-          let w : written ≤ 1024 = let h = written-few day first room budget (take size array) lent-good lent-length lists in omega (arith, h, rooms) in
-          e
-          ∙ listed-put text first all visited written (day .counts .choices) (lent ++ drop size array) w (few .0) page-holds (page-numbered f a) (omega (arith, l))
-          ∙ ap (λ (answer : Answer). putAt text 0 (answerText answer)) page-listed
-
-    -- out of turns
-    pub page-turns : result ≡ listedCase.Turns → turns budget ≡ listAnswer day first room budget
-    page-turns t = turns-listed day first room budget (take size array) lent-good (ap (λ (r : Listed). outcome (listedTells r) lent) (sym t) ∙ e)
+      pub page-puts : (head : List ℕ) → length head ≤ 29 → ((plans : List (List ℕ)) → pageText head first (number told) plans ≡ answerText (answerWith first told plans))
+          → (text : List ℕ) → length text ≡ 288818 → first < 2 ^ 64 → number told < 2 ^ 64 → {text′ : List ℕ} {end : ℕ}
+          → pool text′ end ≡ putPage text head first (number told) (written told) (day .counts .choices) (lent ++ drop size array)
+          → Puts (Lists day first room budget) text text′ end
+      page-puts head short is text l f n p =
+          let w : written told ≤ 1024 = let h = shown .few in omega (arith, h, rooms) in
+          record {
+            answer = answerWith first told (plansIn (written told) (day .counts .choices) (lent ++ drop size array));
+            may = shown .listed n (drop size array);
+            put =
+                p
+                ∙ page-put text head first (number told) (written told) (day .counts .choices) (lent ++ drop size array) w (few .0) page-holds (shown .numbered f n) short (omega (arith, l))
+                ∙ ap (putAt text 0) (is (plansIn (written told) (day .counts .choices) (lent ++ drop size array)));
+          }
 
     -- never a refusal
-    pub page-refused : {why : Refusal} → result ≡ listedCase.Refused why → ⊥
-    page-refused t = none-refused day first room budget (take size array) lent-good (ap (λ (r : Listed). outcome (listedTells r) lent) (sym t) ∙ e)
+    pub page-refused : {why : Refusal} → result ≡ paged.Refused why → ⊥
+    page-refused t =
+        refused-not-done (sym (subst (λ (z : Told PageTold). Within day first room budget (take size array) z lent) (ap pagedTells t) (within-fits day first room budget (take size array) e)) ∙ lent-good)

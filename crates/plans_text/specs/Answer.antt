@@ -1,17 +1,16 @@
 -- What the program `plans` answers to a file and three numbers: docs/PLANS.md as a definition.
-use mathlib.Core.Bool.{cond}
+use mathlib.Core.Path.{_≡_}
+use mathlib.Core.Logic.{_⊎_}
 use mathlib.Core.List.{List}
-use Prim.Native.Nat.{ℕ}
-use lib.Dec.{leb}
-use lib.ListN.{length}
+use Prim.Native.Nat.{ℕ, _+_, _-_, _≤_, _<_, _^_}
+use lib.ListN.{length, take}
 use Rattle.constraint.specs.declared.check.Counts.{Counts}
 use Rattle.constraints.specs.Reduction.{reducedRows, searchList}
 use Rattle.day_file.specs.Day.{rowCounts}
-use Rattle.day_file.specs.Day as file
 use Rattle.day_file.specs.File.{dayIn}
 use Rattle.scheduling.specs.Day.{Day, dayOf}
 use Rattle.listing_nodes.specs.Placements.{page, total, nodes}
-use Rattle.plans_lines.specs.Lines.{Answer, listed, turns, clash, refused}
+use Rattle.plans_lines.specs.Lines.{Answer, ended, goesOn, turns, clash, refused}
 use Rattle.planner.specs.Prepared.{Prepared, reducedTo, preparedOf, withRows}
 use Rattle.planner.specs.Prepared as prepared
 
@@ -21,27 +20,33 @@ searchDay counts mins maxs optional rows =
     let list = searchList (reducedRows counts rows) in
     dayOf (withRows counts (length list)) mins maxs optional list
 
--- a day that is listed; out of turns exactly if it has more nodes than the budget
-unfoldable pub listAnswer : Day → ℕ → ℕ → ℕ → Answer
-listAnswer day first room budget =
-    cond (leb (nodes day) budget) (listed first (total day) (nodes day) (page day first room)) (turns budget)
+module _ (day : Day) (first room budget : ℕ) where
+  -- what a day that is listed may answer: it speaks of request 03's list alone, and is settled but for when turns run out
+  pub data Lists : Answer → Type 0 where
+    -- no plan comes after the page, or the total alone was asked for; the total is of 64 bits
+    lists-all : (room ≡ 0) ⊎ (total day ≤ first + room) → total day < 2 ^ 64 → Lists (ended first (total day) (page day first room))
+    -- the plan after the page was met
+    lists-page : 0 < room → first + room < total day → Lists (goesOn first (first + room + 1) (page day first room))
+    -- turns ran out, which they never do where request 03's nodes are within the budget: the plans of the page among those met
+    lists-some : (met : ℕ) → budget < nodes day → met ≤ total day → (room ≡ 0) ⊎ (met ≤ first + room) → Lists (turns first met (take (met - first) (page day first room)))
 
 -- only a day that is ready is listed
-abbrev pub answerBy : Prepared → Answer → Answer
-answerBy prepared.ready next = next
-answerBy prepared.clash next = clash
-answerBy (prepared.refused number) next = refused number
+abbrev pub AnsweredBy : Prepared → (Answer → Type 0) → Answer → Type 0
+AnsweredBy prepared.ready Next answer = Next answer
+AnsweredBy prepared.clash Next answer = answer ≡ clash
+AnsweredBy (prepared.refused number) Next answer = answer ≡ refused number
 
 -- a day that is reduced: 6, or a clash and nothing listed, or the listing
-unfoldable pub reduceAnswer : Counts → List ℕ → List ℕ → List ℕ → List ℕ → ℕ → ℕ → ℕ → Answer
-reduceAnswer counts mins maxs optional rows first room budget =
-    answerBy (reducedTo counts rows) (listAnswer (searchDay counts mins maxs optional rows) first room budget)
+unfoldable pub ReduceAnswers : Counts → List ℕ → List ℕ → List ℕ → List ℕ → ℕ → ℕ → ℕ → Answer → Type 0
+ReduceAnswers counts mins maxs optional rows first room budget =
+    AnsweredBy (reducedTo counts rows) (Lists (searchDay counts mins maxs optional rows) first room budget)
 
--- the listing of a file's day
-abbrev pub dayListed : file.Day → ℕ → ℕ → ℕ → Answer
-dayListed day first room budget =
-    listAnswer (searchDay (rowCounts (day .counts)) (day .lists .mins) (day .lists .maxs) (day .lists .optional) (day .lists .rows)) first room budget
+-- the day that a file lists
+abbrev pub fileDay : List ℕ → Day
+fileDay bytes =
+    let day = dayIn bytes in
+    searchDay (rowCounts (day .counts)) (day .lists .mins) (day .lists .maxs) (day .lists .optional) (day .lists .rows)
 
 -- the file's refusal, 6 or a clash, or the listing
-unfoldable pub answerOf : List ℕ → ℕ → ℕ → ℕ → Answer
-answerOf bytes first room budget = answerBy (preparedOf bytes) (dayListed (dayIn bytes) first room budget)
+unfoldable pub Answers : List ℕ → ℕ → ℕ → ℕ → Answer → Type 0
+Answers bytes first room budget = AnsweredBy (preparedOf bytes) (Lists (fileDay bytes) first room budget)

@@ -6,35 +6,32 @@ use constraints::reduce;
 use day_file::read::Read;
 use day_file::read::read_day;
 use day_file::word::LONGEST_FILE;
-use listing::list_plans::Listed;
-use listing::list_plans::list_plans;
+use page_answers::page::Paged;
+use plan_walk::page::list_page;
 use planner::blank;
 use planner::made::Made;
 use planner::refusal::put_refusal;
 use planner::search_list::search_count;
-use plans_lines::lines::put_listed;
-use plans_lines::lines::put_turns;
+use plans_lines::lines::put_page;
 use pools::clear_bytes;
 use texts::put::put_clash;
 ghost use mathlib.Core.Path.{_≡_};
 ghost use Prim.Native.Nat.{_*_, _≤_};
 ghost use lib.ListN.{length};
-ghost use Rattle.constraint.specs.Told.{good, outcome};
-ghost use Rattle.texts.specs.Put.{pool, putAt};
+ghost use Rattle.constraint.specs.Told.{good};
 ghost use Rattle.scheduling.specs.Day.{dayOf};
 ghost use Rattle.listing_nodes.specs.Judge.{judgeOf};
-ghost use Rattle.plans_lines.specs.Lines.{answerText};
 ghost use Rattle.plans_lines.specs.Pages.{longest};
 ghost use Rattle.planner.specs.Made.{madeTells};
 ghost use Rattle.planner.specs.steps.Given.{Given};
-ghost use Rattle.plans_text.specs.Answer.{listAnswer, reduceAnswer};
-ghost use Rattle.plans_text.specs.Calls.{plansText, textOf};
+ghost use Rattle.plans_text.specs.Answer.{Lists, ReduceAnswers, Answers};
+ghost use Rattle.plans_text.specs.Calls.{Puts, TextFits};
 
 // The most plans that a page of the program may have.
 pub const MOST_ROOM: u64 = 1024;
 
-// The length of the pool lent for a text: three lines of 68 bytes in all, and 1,024 plans of 64 places at 282 bytes.
-pub const LONGEST_TEXT: usize = 288_836;
+// The length of the pool lent for a text: two lines of 50 bytes in all, and 1,024 plans of 64 places at 282 bytes.
+pub const LONGEST_TEXT: usize = 288_818;
 
 // The text of a day that the listing takes.
 fn put_plans_of(
@@ -49,11 +46,11 @@ fn put_plans_of(
     text: &mut [u8],
 ) -> usize
     requires { ⌜ judgeOf (dayOf counts (now mins) (now maxs) (now optional) (now rows)) room (room * counts .choices) ≡ good ⌝ ∗ ⌜ room ≤ 1024 ⌝ ∗ ⌜ length (now text) ≡ longest ⌝ }
-    ensures { λ r. ⌜ pool (now (text .exit)) r ≡ putAt (now (text .entry)) 0 (answerText (listAnswer (dayOf counts (now (mins .entry)) (now (maxs .entry)) (now (optional .entry)) (now (rows .entry))) first room budget)) ⌝ }
+    ensures { λ r. ⌜ Puts (Lists (dayOf counts (now (mins .entry)) (now (maxs .entry)) (now (optional .entry)) (now (rows .entry))) first room budget) (now (text .entry)) (now (text .exit)) r ⌝ }
 {
     let mut buffer = blank::page();
     let size = room as usize * counts.choices;
-    let listed = list_plans(
+    let paged = list_page(
         counts,
         mins,
         maxs,
@@ -64,22 +61,35 @@ fn put_plans_of(
         budget,
         &mut buffer[..size],
     );
-    match listed {
-        Listed::Plans {
-            written,
-            total,
-            nodes,
-        } => put_listed(
+    match paged {
+        Paged::Ended { written, total } => put_page(
             text,
+            b"result listed\ntotal ",
             first,
             total,
-            nodes,
             written as usize,
             counts.choices,
             &buffer,
         ),
-        Listed::Turns => put_turns(text, budget),
-        Listed::Refused(why) => put_refusal(text, why),
+        Paged::GoesOn { written, met } => put_page(
+            text,
+            b"result listed\ntotal at least ",
+            first,
+            met,
+            written as usize,
+            counts.choices,
+            &buffer,
+        ),
+        Paged::Turns { written, met } => put_page(
+            text,
+            b"result turns\ntotal at least ",
+            first,
+            met,
+            written as usize,
+            counts.choices,
+            &buffer,
+        ),
+        Paged::Refused(why) => put_refusal(text, why),
     }
 }
 
@@ -96,7 +106,7 @@ fn put_day(
     text: &mut [u8],
 ) -> usize
     requires { ⌜ Given counts (now mins) (now maxs) (now optional) (now rows) ⌝ ∗ ⌜ room ≤ 1024 ⌝ ∗ ⌜ length (now text) ≡ longest ⌝ }
-    ensures { λ r. ⌜ pool (now (text .exit)) r ≡ putAt (now (text .entry)) 0 (answerText (reduceAnswer counts (now (mins .entry)) (now (maxs .entry)) (now (optional .entry)) (now (rows .entry)) first room budget)) ⌝ }
+    ensures { λ r. ⌜ Puts (ReduceAnswers counts (now (mins .entry)) (now (maxs .entry)) (now (optional .entry)) (now (rows .entry)) first room budget) (now (text .entry)) (now (text .exit)) r ⌝ }
 {
     let mut pool = blank::reduced_rows();
     let reduced = reduce(counts, rows, &mut pool);
@@ -131,7 +141,7 @@ fn put_day(
 // The text of a file.
 fn put_file(file: &[u8], first: u64, room: u64, budget: u64, text: &mut [u8]) -> usize
     requires { ⌜ room ≤ 1024 ⌝ ∗ ⌜ length (now text) ≡ longest ⌝ }
-    ensures { λ r. ⌜ pool (now (text .exit)) r ≡ putAt (now (text .entry)) 0 (plansText (now (file .entry)) first room budget) ⌝ }
+    ensures { λ r. ⌜ Puts (Answers (now (file .entry)) first room budget) (now (text .entry)) (now (text .exit)) r ⌝ }
 {
     if LONGEST_FILE < file.len() {
         return put_refusal(text, Refusal::FileLength);
@@ -169,7 +179,7 @@ fn put_file(file: &[u8], first: u64, room: u64, budget: u64, text: &mut [u8]) ->
 
 // The whole text that the program prints for a file, from the front of the lent pool.
 pub fn plans_text(file: &[u8], first: u64, room: u64, budget: u64, text: &mut [u8]) -> Made
-    ensures { λ r. ⌜ outcome (madeTells r) (now (text .exit)) ≡ textOf (now (file .entry)) first room budget (now (text .entry)) ⌝ }
+    ensures { λ r. ⌜ TextFits (now (file .entry)) first room budget (now (text .entry)) (madeTells r) (now (text .exit)) ⌝ }
 {
     if MOST_ROOM < room {
         return Made::Refused(Refusal::Count);

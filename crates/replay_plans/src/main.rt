@@ -28,7 +28,7 @@ const PLAN_FILE_AT: usize = 4;
 
 // Room for the longest text of `plans`.
 fn text_pool() -> [u8; LONGEST_TEXT]
-    ensures { λ r. ⌜ 288836 ≡ length r ⌝ }
+    ensures { λ r. ⌜ 288818 ≡ length r ⌝ }
 {
     [BLANK; LONGEST_TEXT]
 }

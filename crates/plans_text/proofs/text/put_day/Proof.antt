@@ -4,11 +4,11 @@ use native.Mathlib.Omega.{arith}
 use borrow.Author.Tests.{not-true, not-false}
 use lib.ListN.{length, take}
 use lib.Seq.{length-take-le}
-use Rattle.texts.proofs.PutLaws.{put-as}
-use Rattle.plans_lines.specs.Lines.{answerText}
+use Rattle.plans_lines.specs.Lines.{clash, refused}
 use Rattle.plans_lines.proofs.LineLaws.{clash-is, refused-is}
 use Rattle.planner.proofs.ReduceLaws.{clash-told, ready-told, count-fits, pool-length, rows-case, refused-case, searches-fit}
-use Rattle.plans_text.proofs.DayLaws.{reduce-refused, reduce-clash, reduce-ready, day-is, day-judged}
+use Rattle.plans_text.proofs.DayLaws.{reduce-refused, reduce-clash, reduce-puts, day-is, day-judged}
+use Rattle.plans_text.proofs.CallLaws.{puts-as}
 use borrow.Author.Needs.{needs}
 use Rattle.plans_text.proofs.text.put_day.Statement.{statement}
 use Rattle.plans_text.proofs.text.put_day.Tie as tie
@@ -37,7 +37,7 @@ returns c =
     let s = c .before .before .before .before .before .before .before .before .before .before .before .before .before .before .before .before .before in
     let rows = c .before .before .before .before .before .before .before .before .before .before .before .reduced-rows in
     let r = rows-case _ _ _ _ _ (s .pre .0) (rows .result) (rows .ensures .0) (c .before .before .before .before .before .before .before .before .before .reduce .ensures) (c .before .before .before .before .before .before .reduced .given .1) in
-    put-as _ _ (clash-is ∙ ap answerText (reduce-clash _ _ _ _ _ (s .args .first) (s .args .room) (s .args .budget) (clash-told _ _ _ _ _ (s .pre .0) r (c .before .before .before .before .if1 .taken)))) (c .before .before .put-clash .ensures)
+    puts-as clash clash-is (reduce-clash _ _ _ _ _ (s .args .first) (s .args .room) (s .args .budget) (clash-told _ _ _ _ _ (s .pre .0) r (c .before .before .before .before .if1 .taken))) (c .before .before .put-clash .ensures)
 
 array-share-prefix-pool : tie.Need-array-share-prefix-pool
 array-share-prefix-pool c =
@@ -74,7 +74,7 @@ same-length-2 c = search needs
 
 returns-2 : tie.Need-returns-2
 returns-2 c =
-    let s = c .before .before .before .before .before .before .before .before .before .before .before .before .before .before .before .before .before .before .before .before in let rows = c .before .before .before .before .before .before .before .before .before .before .before .before .before .before .reduced-rows in let r = rows-case _ _ _ _ _ (s .pre .0) (rows .result) (rows .ensures .0) (c .before .before .before .before .before .before .before .before .before .before .before .before .reduce .ensures) (c .before .before .before .before .before .before .before .before .before .reduced .given .1) in let d = day-is _ _ _ _ _ (s .pre .0) r (c .before .before .before .before .before .search-count .ensures) in rw (sym (reduce-ready (s .args .counts) (s .args .mins .now) (s .args .maxs .now) (s .args .optional .now) (s .args .rows .now) (s .args .first) (s .args .room) (s .args .budget) (ready-told _ _ _ _ _ (s .pre .0) r (c .before .before .before .before .before .before .before .if1 .left))), sym d) (c .before .before .put-plans-of .ensures)
+    let s = c .before .before .before .before .before .before .before .before .before .before .before .before .before .before .before .before .before .before .before .before in let rows = c .before .before .before .before .before .before .before .before .before .before .before .before .before .before .reduced-rows in let r = rows-case _ _ _ _ _ (s .pre .0) (rows .result) (rows .ensures .0) (c .before .before .before .before .before .before .before .before .before .before .before .before .reduce .ensures) (c .before .before .before .before .before .before .before .before .before .reduced .given .1) in let d = day-is _ _ _ _ _ (s .pre .0) r (c .before .before .before .before .before .search-count .ensures) in reduce-puts (s .args .counts) (s .args .mins .now) (s .args .maxs .now) (s .args .optional .now) (s .args .rows .now) (s .args .first) (s .args .room) (s .args .budget) (ready-told _ _ _ _ _ (s .pre .0) r (c .before .before .before .before .before .before .before .if1 .left)) d (c .before .before .put-plans-of .ensures)
 
 same-length-3 : tie.Need-same-length-3
 same-length-3 c = search needs
@@ -84,7 +84,7 @@ returns-3 c =
     let s = c .before .before .before .before .before .before .before .before .before .before .before .before .before .before .before .before in
     let rows = c .before .before .before .before .before .before .before .before .before .before .reduced-rows in
     let l = refused-case _ _ _ _ _ (s .pre .0) (rows .result) (rows .ensures .0) (c .before .before .before .before .before .before .before .before .reduce .ensures) (c .before .before .before .before .before .reduced2 .given .1) in
-    put-as _ _ (refused-is _ ∙ ap answerText (reduce-refused _ (s .args .mins .now) (s .args .maxs .now) (s .args .optional .now) _ (s .args .first) (s .args .room) (s .args .budget) l)) (c .before .before .put-refusal .ensures)
+    puts-as (refused _) (refused-is _) (reduce-refused _ (s .args .mins .now) (s .args .maxs .now) (s .args .optional .now) _ (s .args .first) (s .args .room) (s .args .budget) l) (c .before .before .put-refusal .ensures)
 
 pub put-day-spec : {M : Type 1} → statement M
 put-day-spec =

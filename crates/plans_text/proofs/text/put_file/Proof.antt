@@ -5,11 +5,11 @@ use Rattle.constraint.specs.Refusal.{numberOf, carriedBy}
 use Rattle.constraint.specs.Told.{refused}
 use Rattle.day_file.specs.Calls.{fileJudged}
 use Rattle.day_file.specs.Day.{parts, poolsFull}
-use Rattle.texts.proofs.PutLaws.{put-as}
+use Rattle.plans_lines.specs.Lines as answer
 use Rattle.plans_lines.proofs.LineLaws.{refused-is}
 use Rattle.planner.proofs.FileLaws.{Filled, pools-full, day-case, refused-case, mins-within, maxs-within, optional-within, rows-within, day-given, prepared-long, prepared-refused}
-use Rattle.plans_text.proofs.DayLaws.{day-answer, answer-refused}
-use Rattle.plans_text.proofs.CallLaws.{text-of}
+use Rattle.plans_text.proofs.DayLaws.{day-puts, answer-refused}
+use Rattle.plans_text.proofs.CallLaws.{puts-as}
 use borrow.Author.Needs.{needs}
 use Rattle.plans_text.proofs.text.put_file.Statement.{statement}
 use Rattle.plans_text.proofs.text.put_file.Tie as tie
@@ -25,7 +25,7 @@ returns : tie.Need-returns
 returns c =
     let s = c .before .before .before .before .before .before .before in
     let l = answer-refused (s .args .file .now) (s .args .first) (s .args .room) (s .args .budget) (prepared-long (s .args .file .now) (c .before .before .before .before .if1 .taken)) in
-    put-as _ _ (refused-is _ ∙ text-of (s .args .file .now) (s .args .first) (s .args .room) (s .args .budget) (s .args .text .now) l) (c .before .before .put-refusal .ensures)
+    puts-as (answer.refused _) (refused-is _) l (c .before .before .put-refusal .ensures)
 
 words-requires : tie.Need-words-requires
 words-requires c κs = tt
@@ -137,7 +137,7 @@ returns-2 : tie.Need-returns-2
 returns-2 c =
     let s = c .before .before .before .before .before .before .before .before .before .before .before .before .before .before .before .before .before .before .before .before .before .before .before .before .before .before .before .before .before .before .before .before .before .before in
     let f = filled (c .before .before .before .before .before .before .before .before .before .before) in
-    rw (sym (text-of (s .args .file .now) (s .args .first) (s .args .room) (s .args .budget) (s .args .text .now) (day-answer (s .args .file .now) (s .args .first) (s .args .room) (s .args .budget) (c .before .before .before .before .before .before .before .before .before .before .before .before .before .before .before .before .before .before .before .before .before .before .before .before .before .before .before .before .before .before .before .if1 .left) f (c .before .before .before .before .before .before .before .before .for-rows .ensures)))) (c .before .before .put-day .ensures)
+    day-puts (s .args .file .now) (s .args .first) (s .args .room) (s .args .budget) (c .before .before .before .before .before .before .before .before .before .before .before .before .before .before .before .before .before .before .before .before .before .before .before .before .before .before .before .before .before .before .before .if1 .left) f (c .before .before .before .before .before .before .before .before .for-rows .ensures) (c .before .before .put-day .ensures)
 
 same-length-3 : tie.Need-same-length-3
 same-length-3 c = search needs
@@ -146,7 +146,7 @@ returns-3 : tie.Need-returns-3
 returns-3 c =
     let s = c .before .before .before .before .before .before .before .before .before .before .before .before .before .before .before .before .before .before .before .before .before .before .before .before .before .before .before .before .before in
     let l = answer-refused (s .args .file .now) (s .args .first) (s .args .room) (s .args .budget) (prepared-refused (s .args .file .now) (c .before .before .before .before .before .before .before .before .before .before .before .before .before .before .before .before .before .before .before .before .before .before .before .before .before .before .if1 .left) (unread (c .before .before .before .before .before))) in
-    put-as _ _ (refused-is _ ∙ text-of (s .args .file .now) (s .args .first) (s .args .room) (s .args .budget) (s .args .text .now) l) (c .before .before .put-refusal2 .ensures)
+    puts-as (answer.refused _) (refused-is _) l (c .before .before .put-refusal2 .ensures)
 
 pub put-file-spec : {M : Type 1} → statement M
 put-file-spec =
