@@ -44,13 +44,13 @@ static uint8_t print_plan(void)
 
 static uint8_t print_plans(void)
 {
-    uint8_t number = thalluscrest_list_plans(choices, slots, choosers, mins, choices, maxs, choices, optional, choices,
+    uint8_t number = thalluscrest_list_page(choices, slots, choosers, mins, choices, maxs, choices, optional, choices,
         rows, row_count, 0, FIRST_PLANS, BUDGET, page, FIRST_PLANS * choices, figures);
     if (number != THALLUSCREST_DONE) return number;
-    if (figures[THALLUSCREST_LISTED_OUTCOME] == THALLUSCREST_OUT_OF_TURNS)
-        return printf("result turns\nnodes %d\n", BUDGET), number;
-    printf("result listed\ntotal %" PRIu64 "\nnodes %" PRIu64 "\n", figures[THALLUSCREST_LISTED_TOTAL], figures[THALLUSCREST_LISTED_NODES]);
-    for (size_t i = 0; i < figures[THALLUSCREST_LISTED_WRITTEN]; i++, putchar('\n')) {
+    uint64_t outcome = figures[THALLUSCREST_PAGED_OUTCOME];
+    printf("result %s\ntotal %s%" PRIu64 "\n", outcome == THALLUSCREST_OUT_OF_TURNS ? "turns" : "listed",
+        outcome == THALLUSCREST_ENDED ? "" : "at least ", figures[THALLUSCREST_PAGED_MET]);
+    for (size_t i = 0; i < figures[THALLUSCREST_PAGED_WRITTEN]; i++, putchar('\n')) {
         printf("plan %zu", i);
         for (const uint8_t *cell = page + i * choices; cell < page + (i + 1) * choices; cell++)
             *cell == THALLUSCREST_OMITTED ? printf(" out") : printf(" %d", *cell);

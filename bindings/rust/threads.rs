@@ -30,7 +30,8 @@ fn told(file: &[u8]) -> Result<String, Refusal> {
     let roster = vec![0; day.choosers * day.slots];
     let seated = day.check_roster(&reduction, &plan, &roster);
     let plans = day.plans(&reduction.search, PAGE, BUDGET).map(|plans| plans.take(10).collect::<Vec<_>>());
-    Ok(format!("{again} {reduction:?} {map:?} {searched:?} {planned:?} {sets:?} {listed:?} {checked:?} {seated:?} {plans:?}"))
+    let page = day.page(&reduction.search, 1, PAGE, BUDGET);
+    Ok(format!("{again} {reduction:?} {map:?} {searched:?} {planned:?} {sets:?} {listed:?} {checked:?} {seated:?} {plans:?} {page:?}"))
 }
 
 fn main() {

@@ -99,4 +99,10 @@ calls! {
         choices: usize, slots: usize, choosers: usize, mins: [u16], maxs: [u16], optional: [u8], rows: [u64], first: u64,
         room: u64, budget: u64, buffer: mut [u8]
     );
+
+    /// Lists a page of plans, and stops where the list goes on past it.
+    fn list_page = thalluscrest_list_page(
+        choices: usize, slots: usize, choosers: usize, mins: [u16], maxs: [u16], optional: [u8], rows: [u64], first: u64,
+        room: u64, budget: u64, buffer: mut [u8]
+    );
 }

@@ -199,6 +199,37 @@ impl From<Refusal> for NotListed {
     }
 }
 
+/// What comes after a page.
+#[derive(Clone, Copy, Debug, PartialEq, Eq)]
+pub enum After {
+    /// No plan: the plans met are all that the day has.
+    Ended,
+    /// At least one plan.
+    GoesOn,
+    /// Turns ran out: there may be more plans, on the page and after it.
+    OutOfTurns,
+}
+
+/// A page of plans, what comes after it, and how many plans were met, from number 0 on.
+#[derive(Clone, Debug, PartialEq, Eq)]
+pub struct Page {
+    pub after: After,
+    pub plans: Vec<Plan>,
+    pub met: u64,
+}
+
+impl Page {
+    fn of(figures: Figures, choices: usize, buffer: &[u8]) -> Self {
+        let after = match figures[0] {
+            0 => After::Ended,
+            1 => After::GoesOn,
+            _ => After::OutOfTurns,
+        };
+        let plan = |i: usize| buffer[i * choices..(i + 1) * choices].to_vec();
+        Self { after, plans: (0..figures[1] as usize).map(plan).collect(), met: figures[2] }
+    }
+}
+
 /// A day: what its file holds. The lists give the counts of choices, levels and rows.
 #[derive(Clone, Debug, PartialEq, Eq)]
 pub struct Day {
@@ -338,6 +369,17 @@ impl Day {
             &reduction.search, &reduction.roster, plan, roster,
         )?;
         Ok((figures[0] == 1, figures[1] as u16))
+    }
+
+    /// The plans in dictionary order from number `first` on, as many as there is room for; room 0 asks for the total alone. Looks
+    /// at no more than `budget` starts of plans, and at far fewer than `plans` does. Takes about 270 KB of stack.
+    pub fn page(&self, rows: &[u64], first: u64, room: u64, budget: u64) -> Result<Page, Refusal> {
+        let mut buffer = vec![0; room as usize * self.choices()];
+        let figures = calls::list_page(
+            self.choices(), self.slots, self.choosers, &self.mins, &self.maxs, &self.optional, rows, first, room, budget,
+            &mut buffer,
+        )?;
+        Ok(Page::of(figures, self.choices(), &buffer))
     }
 
     /// All plans in dictionary order. Each page of `room` plans looks at every start of a plan again, at most `budget`

@@ -9,6 +9,7 @@ use Rattle.constraints.specs.declared.Reduction.{Reduction}
 use Rattle.critical_set_analysis.specs.Calls as sets
 use Rattle.day_file.specs.declared.counts.DayCounts.{DayCounts}
 use Rattle.listing.specs.Outcome.{PageTold, plansTold, turnsTold}
+use Rattle.alive_starts.specs.Page as walked
 use Rattle.demand.specs.Calls.{Settled, plan, noPlan, outOfTurns}
 use Rattle.scoring.specs.Check.{Scored}
 use Rattle.call_figures.specs.Crossing.{Crossed, across}
@@ -57,3 +58,9 @@ rosterFigures scored = flag (scored .passed) ∷ scored .highest ∷ 0 ∷ 0 ∷
 abbrev pub pageFigures : PageTold → List ℕ
 pageFigures (plansTold written total nodes) = 1 ∷ written ∷ total ∷ nodes ∷ 0 ∷ 0 ∷ 0 ∷ 0 ∷ []
 pageFigures turnsTold = 2 ∷ 0 ∷ 0 ∷ 0 ∷ 0 ∷ 0 ∷ 0 ∷ 0 ∷ []
+
+-- a page of plans: 0 if no plan comes after it, with how many it has and how many there are; 1 if the list goes on, 2 for out of turns, both with how many plans were met
+abbrev pub pagedFigures : walked.PageTold → List ℕ
+pagedFigures (walked.endedTold written total) = 0 ∷ written ∷ total ∷ 0 ∷ 0 ∷ 0 ∷ 0 ∷ 0 ∷ []
+pagedFigures (walked.goesOnTold written met) = 1 ∷ written ∷ met ∷ 0 ∷ 0 ∷ 0 ∷ 0 ∷ 0 ∷ []
+pagedFigures (walked.turnsTold written met) = 2 ∷ written ∷ met ∷ 0 ∷ 0 ∷ 0 ∷ 0 ∷ 0 ∷ []

@@ -1,4 +1,5 @@
 pub mod Crossing
 pub mod Layouts
 pub mod Codes
+pub mod Counts
 pub mod steps

@@ -1,14 +1,16 @@
 // A plan and a roster checked, and plans listed.
 use super::refusal::put_refusal;
 use listing::list_plans::Listed;
+use page_answers::page::Paged;
 use scheduling::plan_check::PlanChecked;
 use scoring::roster_check::RosterChecked;
 ghost use mathlib.Core.Path.{_≡_};
 ghost use Rattle.listing.specs.Outcome.{listedTells};
+ghost use Rattle.page_answers.specs.Page.{pagedTells};
 ghost use Rattle.scheduling.specs.Check.{planCheckedTells};
 ghost use Rattle.scoring.specs.Check.{rosterTells};
 ghost use Rattle.call_figures.specs.Crossing.{answer, told};
-ghost use Rattle.call_figures.specs.Layouts.{checkFigures, rosterFigures, pageFigures};
+ghost use Rattle.call_figures.specs.Layouts.{checkFigures, rosterFigures, pageFigures, pagedFigures};
 
 // A plan checked: whether it is feasible.
 pub fn put_checked(checked: PlanChecked, figures: &mut [u64; 8]) -> u8
@@ -62,5 +64,26 @@ pub fn put_listed(listed: Listed, figures: &mut [u64; 8]) -> u8
             0
         }
         Listed::Refused(why) => put_refusal(why, figures),
+    }
+}
+
+// A page of plans: whether the list ends with it, goes on or turns ran out, the plans written and those met.
+pub fn put_paged(paged: Paged, figures: &mut [u64; 8]) -> u8
+    ensures { λ r. ⌜ answer r (now (figures .exit)) ≡ told pagedFigures (pagedTells paged) ⌝ }
+{
+    match paged {
+        Paged::Ended { written, total } => {
+            *figures = [0, written, total, 0, 0, 0, 0, 0];
+            0
+        }
+        Paged::GoesOn { written, met } => {
+            *figures = [1, written, met, 0, 0, 0, 0, 0];
+            0
+        }
+        Paged::Turns { written, met } => {
+            *figures = [2, written, met, 0, 0, 0, 0, 0];
+            0
+        }
+        Paged::Refused(why) => put_refusal(why, figures),
     }
 }

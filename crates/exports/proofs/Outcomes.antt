@@ -1,4 +1,4 @@
--- No two outcomes fit: the promise of a call settles its number, its figures and its buffers, whatever the call.
+-- No two outcomes fit: the promise of a call settles its number, its figures and its buffers, whatever the call; a page's is in PageOutcomes.
 use mathlib.Core.Path.{_≡_, ap}
 use mathlib.Core.List.{List}
 use Prim.Native.Nat.{ℕ}

@@ -6,7 +6,6 @@ use Rattle.constraint.specs.declared.check.Counts.{Counts}
 use Rattle.critical_set_analysis.specs.declared.day.DayCounts as sets
 use Rattle.day_file.specs.declared.counts.DayCounts as file
 use Rattle.day_plan.specs.declared.plan.PlanCounts.{PlanCounts}
-use Rattle.scoring.specs.declared.roster_check.RosterCounts.{RosterCounts}
 use Rattle.search_input.specs.declared.counts.SearchCounts.{SearchCounts}
 
 -- of rows: reduction, plan check, own map and listing
@@ -40,15 +39,3 @@ searchCountsOf choices slots choosers levels rows numbers =
 abbrev pub planCountsOf : ℕ → ℕ → ℕ → List ℕ → List ℕ → PlanCounts
 planCountsOf choices slots choosers levels rows =
     record { choices = choices; slots = slots; choosers = choosers; levels = length levels; rows = length rows }
-
--- of a roster
-abbrev pub rosterCountsOf : ℕ → ℕ → ℕ → List ℕ → List ℕ → List ℕ → RosterCounts
-rosterCountsOf choices slots choosers levels rows assignmentRows =
-    record {
-      choices = choices;
-      slots = slots;
-      choosers = choosers;
-      levels = length levels;
-      rows = length rows;
-      «assignment_rows» = length assignmentRows;
-    }

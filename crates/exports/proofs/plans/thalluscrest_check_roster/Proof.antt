@@ -1,13 +1,15 @@
--- What the roster check answers.
+-- What the roster check answers, of the counts that its lists give.
 use mathlib.Core.Path.{_∙_, ap}
 use Rattle.call_figures.specs.Crossing.{told}
 use Rattle.call_figures.specs.Layouts.{rosterFigures}
+use Rattle.scoring.specs.Check.{rosterCheckOf}
+use Rattle.scoring.specs.Sheet.{sheetOf}
+use Rattle.scoring.specs.declared.roster_check.RosterCounts.{RosterCounts}
 use Rattle.exports.proofs.plans.thalluscrest_check_roster.Statement.{statement}
 use Rattle.exports.proofs.plans.thalluscrest_check_roster.Tie as tie
-use Rattle.exports.proofs.plans.thalluscrest_check_roster.Reads as reads
-use Rattle.exports.proofs.plans.thalluscrest_check_roster.Lts as lts
-use Rattle.call_figures.proofs.plan.put_roster.Reads as put-roster-reads
-use Rattle.scoring.proofs.roster_check.check_roster.Reads as check-roster-reads
+
+roster-counts-requires : tie.Need-roster-counts-requires
+roster-counts-requires c κs = tt
 
 check-roster-requires : tie.Need-check-roster-requires
 check-roster-requires c κs = tt
@@ -16,8 +18,14 @@ put-roster-requires : tie.Need-put-roster-requires
 put-roster-requires c κs = tt
 
 returns : tie.Need-returns
-returns c = c .put-roster .ensures ∙ ap (told rosterFigures) (c .before .before .check-roster .ensures)
+returns c =
+    let s = c .before .before .before .before .before .before .before .before .before .before .before .before in
+    c .put-roster .ensures
+    ∙ ap (told rosterFigures)
+    (c .before .before .check-roster .ensures
+    ∙ ap (λ (counts : RosterCounts). rosterCheckOf (sheetOf counts (s .args .mins .now) (s .args .maxs .now) (s .args .levels .now) (s .args .preferences .now) (s .args .rows .now) (s .args .assignment-rows .now) (s .args .plan .now) (s .args .roster .now)))
+    (c .before .before .before .roster-counts .ensures))
 
 pub thalluscrest-check-roster-spec : {M : Type 1} → statement M
 thalluscrest-check-roster-spec =
-    tie.close (tie.spec check-roster-requires put-roster-requires returns)
+    tie.close (tie.spec roster-counts-requires check-roster-requires put-roster-requires returns)

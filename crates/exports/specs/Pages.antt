@@ -1,0 +1,16 @@
+-- A page of plans in other languages. What it may be is a relation: where turns run out isn't settled.
+use mathlib.Core.Path.{_≡_}
+use mathlib.Core.List.{List}
+use Prim.Native.Nat.{ℕ}
+use Rattle.call_figures.specs.Crossing.{told, Crossed}
+use Rattle.call_figures.specs.Layouts.{pagedFigures}
+use Rattle.constraint.specs.Told.{Told}
+use Rattle.scheduling.specs.Day.{Day}
+use Rattle.alive_starts.specs.Page.{PageTold}
+use Rattle.plan_walk.specs.Page.{Fits}
+
+-- what crosses is an answer of the library that fits the day, with the buffer that it leaves
+pub record PageCrosses (day : Day) (first room budget : ℕ) (buffer : List ℕ) (left : Crossed (List ℕ)) : Type 0 where
+  pub known : Told PageTold
+  pub fits : Fits day first room budget buffer known (left .buffers)
+  pub tells : left .answer ≡ told pagedFigures known
