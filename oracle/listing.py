@@ -3,6 +3,7 @@
 
 usage: oracle/listing.py DAYFILE [FIRST [ROOM [BUDGET]]]
                          what the program `plans` prints for a good day file
+                         with no more nodes than the budget
        oracle/listing.py --check
                          holds this plan check against the Rust's, on every placement of
                          every committed day (oracle/build comes first)
@@ -170,6 +171,15 @@ def read_day_file(content):
     return choices, slots, choosers, data, given
 
 
+class Unsettled(Exception):
+    """The day has more nodes than the budget: whether turns run out isn't settled."""
+
+
+def head(total, first, room):
+    """The line after `result listed`: the total where no plan comes after the page or no plan was asked for, else the plans met."""
+    return f"total {total}" if room == 0 or total <= first + room else f"total at least {first + room + 1}"
+
+
 def text(content, first, room, budget):
     """What `plans` prints."""
     import scope
@@ -185,8 +195,8 @@ def text(content, first, room, budget):
     mins, maxs, flags = ([line[i] for line in data] for i in range(3))
     plans, nodes = walk(Day(slots, choosers, rows, mins, maxs, flags))
     if nodes > budget:
-        return f"result turns\nnodes {budget}\n"
-    lines = ["result listed", f"total {len(plans)}", f"nodes {nodes}"]
+        raise Unsettled
+    lines = ["result listed", head(len(plans), first, room)]
     for number, plan in list(enumerate(plans))[first: first + room]:
         cells = ["out" if place == OUT else str(place) for place in plan]
         lines.append(" ".join(["plan", str(number)] + cells))
@@ -227,8 +237,11 @@ def main():
     if not 1 <= len(arguments) <= 4:
         sys.exit(__doc__.strip())
     numbers = [int(word) for word in arguments[1:]]
-    first, room, budget = numbers + [0, 100, 100_000_000][len(numbers):]
-    sys.stdout.write(text(Path(arguments[0]).read_bytes(), first, room, budget))
+    first, room, budget = numbers + [0, 100, 2_000_000][len(numbers):]
+    try:
+        sys.stdout.write(text(Path(arguments[0]).read_bytes(), first, room, budget))
+    except Unsettled as why:
+        sys.exit(why.__doc__)
 
 
 if __name__ == "__main__":

@@ -2,7 +2,8 @@
 plans' cases.
 
 A case is first, room and budget (8 bytes each) and a file with its length (4 bytes) before it. The answer: the text with its
-length (4 bytes) before it, or 0xFFFFFFFF where the room is over 1,024 and there is no text.
+length (4 bytes) before it, or 0xFFFFFFFF where the room is over 1,024 and there is no text. No case has fewer turns than its
+day has nodes: whether they run out isn't settled.
 """
 
 import struct

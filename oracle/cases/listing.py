@@ -4,6 +4,7 @@ import itertools
 import struct
 
 from cases import plan_check
+from listing import Day, walk
 from cases.common import row, rows_bytes, u16s
 
 SEED = 1_007
@@ -80,6 +81,39 @@ def random_case(draws):
     return body(day.slots, day.choosers, day.rows, day.mins, day.maxs, day.optional)
 
 
+def many_choices(draws):
+    """Seven to ten choices, so that a walk looks ahead: sums that hold or nearly hold, a few rows of each kind."""
+    choices = draws.between(7, 10)
+    slots = 2 if choices > 8 else draws.pick([2, 3, 3])
+    choosers = draws.between(5, 14)
+    share = choosers * slots / choices
+    maxs = [max(1, int(share * draws.between(80, 170) / 100)) for _ in range(choices)]
+    mins = [draws.below(int(most * draws.pick([1, 1, 0.5])) + 1) for most in maxs]
+    optional = [int(draws.chance(0.2)) for _ in range(choices)]
+    rows = []
+    for _ in range(draws.pick([0, 1, 2, 3, 4])):
+        one, other = draws.shuffled(range(choices))[:2]
+        slot = draws.below(slots)
+        rows.append(draws.pick([
+            row(1, one, slot), row(2, one, slot), row(3, one, other), row(4, one, other), row(4, one, other),
+            row(5, one, other, draws.pick([1, -1, 0])), row(5, one, other, 1),
+            row(6, slot, draws.between(1, 5), draws.pick([1, 2, 3, -1, -2, -3]))]))
+    return Day(slots, choosers, rows, mins, maxs, optional)
+
+
+def looked_ahead(draws, count):
+    """Days of many choices with few plans; one in four has none."""
+    bare = 0
+    while count:
+        day = many_choices(draws)
+        plans = len(walk(day)[0])
+        if plans > 120 or (plans == 0 and bare * 4 > count):
+            continue
+        bare += plans == 0
+        count -= 1
+        yield body(*day)
+
+
 def committed(draws):
     yield from examples()
     yield from every_tiny()
@@ -87,3 +121,4 @@ def committed(draws):
     yield from many_plans()
     for _ in range(500):
         yield random_case(draws)
+    yield from looked_ahead(draws, 60)

@@ -4,6 +4,7 @@ import itertools
 import struct
 
 import listing
+import plans
 import scope
 from cases import day_file
 from cases.common import OPS, parts, possible_kinds, random_row, row
@@ -41,8 +42,13 @@ def size_of(file):
     return len(plans), nodes
 
 
+def settling(file, budget):
+    """The budget, or one that is enough where the file is good and has more nodes: when turns run out isn't settled."""
+    return LAST if plans.refusal(file) is None and size_of(file)[1] > budget else budget
+
+
 def around(file):
-    """First numbers, rooms and budgets around what the file has, one of them changed at a time, and the two ends together."""
+    """First numbers, rooms and budgets from what the file has on, one of them changed at a time, and the two ends together."""
     total, nodes = size_of(file)
     for first in sorted({0, 1, total // 2, max(total, 1) - 1, total, total + 1, LAST}):
         yield body(file, first)
@@ -50,7 +56,7 @@ def around(file):
     for room in ROOMS:
         yield body(file, 0, room)
         yield body(file, total // 2, room)
-    for budget in sorted({0, nodes - 1, nodes, nodes + 1, LAST}):
+    for budget in sorted({nodes, nodes + 1, LAST}):
         yield body(file, budget=budget)
         yield body(file, room=0, budget=budget)
     yield body(file, LAST, 1_024, LAST)
@@ -189,11 +195,11 @@ def random_case(draws):
     total, nodes = size_of(file)
     first = draws.pick([0, 0, 0, draws.below(total + 1), total // 2, max(total, 1) - 1, total, total + 1, LAST])
     room = draws.pick(ROOMS + [1, 2, 3, 4, 5, 6, 7, 8, draws.below(20)])
-    budget = draws.pick([0, nodes - 1, nodes, nodes, nodes + 1, LAST, LAST, 100_000_000])
+    budget = draws.pick([nodes, nodes, nodes, nodes, nodes + 1, LAST, LAST, 2_000_000])
     for _ in range(draws.pick([0, 0, 0, 0, 1, 2])):
         at = draws.below(len(file))
         file = file[:at] + bytes([draws.pick([0, 1, 2, 255, draws.below(256)])]) + file[at + 1:]
-    return body(file, first, room, budget)
+    return body(file, first, room, settling(file, budget))
 
 
 def committed(draws):
