@@ -11,11 +11,11 @@ use cases::first_words;
 use cases::number;
 use cases::word;
 use search_cases::call;
-use search_cases::call::Lengths;
-use search_cases::call::Places;
-use search_cases::call::analysis_of;
 use search_input::counts::SearchCounts;
 use search_input::settings::Settings;
+use search_records::Lengths;
+use search_records::Places;
+use search_records::analysis_of;
 
 // The lengths of the rows, of the map's parts and of the whole list; and how many of the numbers are written, the rest being 0.
 struct RowLengths {
