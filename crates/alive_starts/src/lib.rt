@@ -1,1 +1,1 @@
-// The list of plans walked with any test of starts: definitions and laws, no code.
+// The list of plans walked by any eyes that keep every plan in sight: definitions and laws, no code.
