@@ -46,7 +46,7 @@ unfoldable pub largestBelow : ℕ → List ℕ → ℕ
 largestBelow zero amounts = 0
 largestBelow (suc n) amounts = max (largestBelow n amounts) (getD amounts n 0)
 
--- a slot whose sums leave room for the largest minimum and for the largest maximum: no choice's own can change anything there
+-- a slot whose sums leave room for the largest minimum and for the largest maximum; to pass it over is safe, whatever the test
 unfoldable pub idle : ℕ → ℕ → ℕ → ℕ → ℕ → Bool
 idle choosers sure able least most = leb (sure + least) choosers && leb (choosers + most) able
 

@@ -19,7 +19,7 @@ unfoldable pub weightOf : ℕ → ℕ → ℕ → ℕ
 weightOf choosers table most =
     cond (eqb table 1) (min most choosers) (partsOf choosers (scaleOf table) (min most choosers))
 
--- the entry that stands for 'no set reaches it'
+-- the entry of a lack that no set fills
 abbrev pub unreached : ℕ
 unreached = 30000
 
