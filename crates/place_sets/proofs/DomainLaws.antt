@@ -10,8 +10,8 @@ use native.Mathlib.Omega.{arith}
 use borrow.Author.Tests.{lt-ltb, le-ltb, ltb-true, ltb-false, leb-true, eq-eqb, ne-eqb, eqb-true, not-true}
 use lib.Arith.{lt-of-le-ne}
 use lib.Dec.{eqb, ltb, leb}
-use lib.ListN.{length, getD, set, length-set}
-use lib.Seq.{getD-set-same, getD-set-other}
+use lib.ListN.{length, getD, set, length-set, List·getD-eq-default}
+use lib.Seq.{getD-set-same, getD-set-other, set-getD}
 use Rattle.lists.specs.Below.{countBelow}
 use Rattle.lists.proofs.Below.{and-left, and-right, and-both, same-test}
 use Rattle.lists.proofs.CountBelow.{count-misses}
@@ -172,6 +172,15 @@ each-at (suc n) rule domains i h = go (ℕ-discrete i n) (each-at n rule domains
         ∙ ap (λ (b : Bool). cond b (rule i (getD domains i 0)) (getD domains i 0))
         (same-test i n i (suc n) (λ l. omega arith) (λ l. lt-of-le-ne l (λ f. e (sym f))))
 
+-- a rule that keeps each of the first domains leaves them all as they are
+pub each-same : (n : ℕ) (rule : ℕ → ℕ → ℕ) (domains : List ℕ) → ((i : ℕ) → i < n → rule i (getD domains i 0) ≡ getD domains i 0)
+    → eachBelow n rule domains ≡ domains
+unfolding eachBelow
+each-same zero rule domains h = refl
+each-same (suc n) rule domains h =
+    ap (λ (x : List ℕ). set x n (rule n (getD domains n 0))) (each-same n rule domains λ i l. h i (omega arith))
+    ∙ ap (λ (x : ℕ). set domains n x) (h n (omega arith)) ∙ set-getD domains n 0
+
 module _ (slots : ℕ) (plan domains : List ℕ) (w : Within slots plan domains) where
   -- a plan within the domains
   pub within-at : (choice : ℕ) → choice < length plan → has (getD domains choice 0) (placeNumber slots (slotOf plan choice)) ≡ true
@@ -221,3 +230,29 @@ first-within day plan domains f s firsts i l =
     go (Placed.left-out e o) =
         rw (number-out (day .counts .slots) (slotOf plan i) (omega (arith, e, s)), eq-eqb (day .counts .slots) (day .counts .slots) refl, eq-eqb (getD (day .optional) i 0) 1 o)
         (or-true (ltb (day .counts .slots) (day .counts .slots)))
+
+-- past a list there is 0
+pub past-none : (list : List ℕ) (i : ℕ) → length list ≤ i → 0 ≡ getD list i 0
+past-none list i h = sym (List·getD-eq-default list 0 h)
+
+-- the first so many choices have their first domains
+pub record FirstUpTo (slots : ℕ) (optional domains : List ℕ) (n : ℕ) : Type 0 where
+  pub size : length domains ≡ 64
+  pub first : (choice : ℕ) → choice < n → getD domains choice 0 ≡ firstDomain slots (getD optional choice 0)
+
+-- none has to be told
+pub first-none : (slots : ℕ) (optional : List ℕ) {domains : List ℕ} → length domains ≡ 64 → FirstUpTo slots optional domains 0
+first-none slots optional e = record { size = e; first = λ choice h. absurd (omega arith) }
+
+-- one choice more
+pub first-more : {slots : ℕ} {optional domains : List ℕ} {n d : ℕ} → FirstUpTo slots optional domains n → n < 64 → d ≡ firstDomain slots (getD optional n 0)
+    → FirstUpTo slots optional (set domains n d) (n + 1)
+first-more {slots} {optional} {domains} {n} {d} f h e =
+    record {
+      size = length-set domains n d ∙ f .size;
+      first =
+          λ choice k. elim (ℕ-discrete choice n) [
+            | yes i ↦ rw (i, getD-set-same domains n d 0 (omega (arith, f .size))) e
+            | no m ↦ getD-set-other domains n choice d 0 m ∙ f .first choice (omega (arith, k, m))
+          ];
+    }

@@ -2,7 +2,9 @@
 use choice_sets::set::member;
 use choice_sets::set::with;
 ghost use mathlib.Core.Path.{_≡_};
+ghost use Prim.Native.Nat.{ℕ, _<_};
 ghost use lib.Dec.{eqb, ltb};
+ghost use lib.ListN.{length, getD};
 ghost use Rattle.choice_sets.specs.Sets.{setOf};
 ghost use Rattle.place_sets.specs.Domains.{firstDomain, onlyPlace, keptPlaces, bothPlaces, settled, inOneSlot};
 
@@ -88,4 +90,34 @@ pub fn first_domain(slots: usize, flag: u8) -> u64
         return every;
     }
     with(every, slots)
+}
+
+// No place for any of 64 choices.
+fn no_domains() -> [u64; 64]
+    ensures { λ r. ⌜ length r ≡ 64 ⌝ }
+{
+    [0u64; 64]
+}
+
+// A choice's optional byte, 0 of one past the list.
+fn flag_of(optional: &[u8], choice: usize) -> u8
+    ensures { λ r. ⌜ r ≡ getD (now (optional .entry)) choice 0 ⌝ }
+{
+    if optional.len() <= choice {
+        return 0;
+    }
+    optional[choice]
+}
+
+// Each choice's places before anything is decided; a choice past the list is not optional.
+pub fn first_domains(slots: usize, optional: &[u8]) -> [u64; 64]
+    ensures { λ r. ⌜ (length r ≡ 64) × ((choice : ℕ) → choice < 64 → getD r choice 0 ≡ firstDomain slots (getD (now (optional .entry)) choice 0)) ⌝ }
+{
+    let mut domains = no_domains();
+    let mut choice = 0;
+    while choice < 64 {
+        domains[choice] = first_domain(slots, flag_of(optional, choice));
+        choice += 1;
+    }
+    domains
 }

@@ -1,23 +1,28 @@
 -- Each way through the code, over plain variables.
 use mathlib.Core.Path.{_≡_, refl, sym, _∙_, ap, ap₂}
-use mathlib.Core.Bool.{Bool, true, false, _&&_, not, cond}
+use mathlib.Core.Bool.{Bool, true, false, _&&_, not, cond, false≢true}
 use mathlib.Core.List.{List}
-use Prim.Native.Nat.{ℕ, zero, suc, _+_, _-_, _≤_, _<_, max}
+use Prim.Native.Nat.{ℕ, zero, suc, _+_, _-_, _^_, _≤_, _<_, max}
+use native.Mathlib.Decide.{ℕ-discrete}
 use native.Mathlib.Numerals.{add-one}
 use native.Mathlib.Omega.{arith}
-use borrow.Author.Tests.{le-leb, lt-leb, leb-true, leb-false, le-ltb, lt-ltb, eq-eqb, ne-eqb}
+use borrow.Author.Tests.{le-leb, lt-leb, leb-true, leb-false, le-ltb, lt-ltb, eq-eqb, ne-eqb, eqb-true}
+use lib.Arith.{lt-of-le-ne}
 use lib.Dec.{eqb, ltb, leb}
 use lib.ListN.{length, getD, set}
 use lib.Seq.{getD-set-other}
 use Rattle.lists.specs.Below.{one, countBelow, sumBelow}
-use Rattle.lists.proofs.Below.{count-more, sum-more}
+use Rattle.lists.proofs.Below.{and-left, and-right, count-more, sum-more}
 use Rattle.lists.proofs.CountBelow.{count-le}
 use Rattle.constraint.specs.Op.{eqOp, gtOp, geqOp, neqOp, leqOp, ltOp}
 use Rattle.constraint.specs.declared.check.Counts.{Counts}
 use Rattle.constraint.specs.declared.row.Row.{Row}
 use Rattle.choice_sets.specs.Sets.{has}
 use Rattle.place_sets.specs.Domains.{onlyPlace, keptPlaces, eachBelow}
+use Rattle.place_sets.proofs.PlaceLaws.{kept-all}
+use Rattle.place_sets.proofs.DomainLaws.{only-has, each-same}
 use Rattle.slot_rules.specs.SlotRules.{certain, possible, minimumFits, maximumSpared, slotLeaves, sumsLeave, largestBelow, idle, slotRule, slotsBelow, amountsFit, slotsRule, mustCount, mayCount, opCan, limitLeaves, limitFits, limitRule}
+use Rattle.slot_rules.specs.steps.Limits.{limitIdle, InWords}
 
 -- ---- small functions
 
@@ -275,6 +280,111 @@ module _ (counts : Counts) (mins maxs first : List ℕ) (slot sure able least mo
   slot-done domains t d =
       rw (sym test-is ∙ t) (d ∙ ap₂ (λ (x y : ℕ). sumsLeave counts mins maxs slot x y first) a b)
 
+-- ---- a limit passed over
+
+-- the domains read so far are numbers of 64 bits
+pub words-none : (domains : List ℕ) → InWords 0 domains
+unfolding InWords
+words-none domains choice l = absurd (omega (arith, l))
+
+pub words-more : (n : ℕ) (domains : List ℕ) → InWords n domains → getD domains n 0 < 2 ^ 64 → InWords (n + 1) domains
+unfolding InWords
+words-more n domains w h choice l = go (ℕ-discrete choice n)
+  where
+    go : Dec (choice ≡ n) → getD domains choice 0 < 2 ^ 64
+    go (yes e) = rw e h
+    go (no e) = w choice (lt-of-le-ne (omega (arith, l)) e)
+
+words-at : (n : ℕ) (domains : List ℕ) (choice : ℕ) → InWords n domains → choice < n → getD domains choice 0 < 2 ^ 64
+unfolding InWords
+words-at n domains choice w l = w choice l
+
+module _ (row : Row) (must may : ℕ) where
+  -- the row's op and limit
+  abbrev can : ℕ → ℕ → Bool
+  can low high = opCan (row .extra) low high (row .right)
+
+  -- the first test that fails decides
+  pub slack-first : (a : Bool) → a ≡ opCan (row .extra) (must + 1) may (row .right) → a ≡ false → false ≡ limitIdle row must may
+  unfolding limitIdle
+  slack-first a p f = rw (sym p ∙ f)
+
+  module _ (a : Bool) (p : a ≡ opCan (row .extra) (must + 1) may (row .right)) (t : a ≡ true)
+      (high : ℕ) (l : high ≡ may - one true) (b : Bool) (q : b ≡ opCan (row .extra) must high (row .right)) where
+    low-is : b ≡ opCan (row .extra) must (may - 1) (row .right)
+    low-is = q ∙ ap (can must) (l ∙ sym (less-one may true refl))
+
+    pub slack-second : b ≡ false → false ≡ limitIdle row must may
+    unfolding limitIdle
+    slack-second f = rw (sym p ∙ t, sym low-is ∙ f)
+
+    module _ (u : b ≡ true) (c : Bool) (r : c ≡ opCan (row .extra) must may (row .right)) where
+      pub slack-third : c ≡ false → false ≡ limitIdle row must may
+      unfolding limitIdle
+      slack-third f = rw (sym p ∙ t, sym low-is ∙ u, sym r ∙ f)
+
+      module _ (v : c ≡ true) (d : Bool) (s : d ≡ opCan (row .extra) (must + 1) (may + 1) (row .right)) where
+        pub slack-fourth : d ≡ false → false ≡ limitIdle row must may
+        unfolding limitIdle
+        slack-fourth f = rw (sym p ∙ t, sym low-is ∙ u, sym r ∙ v, sym s ∙ f)
+
+        pub slack-by : d ≡ true → (lower upper : ℕ) → lower ≡ must - one true → upper ≡ may - one true
+            → (e : Bool) → e ≡ opCan (row .extra) lower upper (row .right) → e ≡ limitIdle row must may
+        unfolding limitIdle
+        slack-by w lower upper m n e g =
+            rw (sym p ∙ t, sym low-is ∙ u, sym r ∙ v, sym s ∙ w)
+            (g ∙ ap₂ can (m ∙ sym (less-one must true refl)) (n ∙ sym (less-one may true refl)))
+
+  -- all five hold
+  idle-means : limitIdle row must may ≡ true
+      → (can (must + 1) may ≡ true) × (can must (may - 1) ≡ true) × (can must may ≡ true) × (can (must + 1) (may + 1) ≡ true) × (can (must - 1) (may - 1) ≡ true)
+  unfolding limitIdle
+  idle-means t =
+      let a = can (must + 1) may in
+      let b = can must (may - 1) in
+      let c = can must may in
+      let d = can (must + 1) (may + 1) in
+      let e = can (must - 1) (may - 1) in
+      let t4 = and-left (a && b && c && d) e t in
+      let t3 = and-left (a && b && c) d t4 in
+      let t2 = and-left (a && b) c t3 in
+      (and-left a b t2, and-right a b t2, and-right (a && b) c t3, and-right (a && b && c) d t4, and-right (a && b && c && d) e t)
+
+  -- the same counts by other names
+  can-same : {low low' high high' : ℕ} → low ≡ low' → high ≡ high' → can low high ≡ true → can low' high' ≡ true
+  can-same p q t = ap₂ can (sym p) (sym q) ∙ t
+
+  -- the counts with a choice in the slot, and without it; who must stand there may
+  module _ (t : limitIdle row must may ≡ true) (only here : Bool) (i : only ≡ true → here ≡ true) where
+    idle-stands : can (must + one (not only)) (may + one (not here)) ≡ true
+    idle-stands = go only here refl refl
+      where
+        go : (o h : Bool) → only ≡ o → here ≡ h → can (must + one (not only)) (may + one (not here)) ≡ true
+        go true true p q = can-same (more-none must only p) (more-none may here q) (idle-means t .2)
+        go true false p q = absurd (false≢true (sym q ∙ i p))
+        go false true p q = can-same (more-one must only p) (more-none may here q) (idle-means t .0)
+        go false false p q = can-same (more-one must only p) (more-one may here q) (idle-means t .3)
+
+    idle-leaves : can (must - one only) (may - one here) ≡ true
+    idle-leaves = go only here refl refl
+      where
+        go : (o h : Bool) → only ≡ o → here ≡ h → can (must - one only) (may - one here) ≡ true
+        go true true p q = can-same (less-one must only p) (less-one may here q) (idle-means t .4)
+        go true false p q = absurd (false≢true (sym q ∙ i p))
+        go false true p q = can-same (less-none must only p) (less-one may here q) (idle-means t .1)
+        go false false p q = can-same (less-none must only p) (less-none may here q) (idle-means t .2)
+
+  -- an idle limit leaves a domain as it is
+  limit-keeps : limitIdle row must may ≡ true → row .left < 64 → (domain : ℕ) → domain < 2 ^ 64 → limitLeaves row must may domain ≡ domain
+  unfolding limitLeaves
+  limit-keeps t l domain w =
+      let only : Bool = eqb domain (onlyPlace (row .left)) in
+      let here : Bool = has domain (row .left) in
+      let i : only ≡ true → here ≡ true =
+      λ e. ap (λ (x : ℕ). has x (row .left)) (eqb-true domain (onlyPlace (row .left)) e) ∙ only-has (row .left) (row .left) l ∙ eq-eqb (row .left) (row .left) refl in
+      ap₂ (λ (x y : Bool). keptPlaces domain (row .left) x y) (idle-stands t only here i) (idle-leaves t only here i)
+      ∙ sym (kept-all domain (row .left) w)
+
 -- ---- every slot
 
 pub slots-none : (counts : Counts) (mins maxs domains : List ℕ) → domains ≡ slotsBelow counts mins maxs 0 domains
@@ -331,3 +441,12 @@ module _ (counts : Counts) (row : Row) (domains : List ℕ) where
   limit-done must may last c s h a b e =
       rw (le-leb _ _ c, le-leb _ _ s, lt-ltb _ _ h)
       (e ∙ ap₂ (λ (x y : ℕ). eachBelow (counts .choices) (limitStep row x y) domains) a b)
+
+  -- an idle limit is passed over
+  pub limit-spared : (must may : ℕ) (test : Bool) → counts .choices ≤ 64 → counts .slots ≤ 24 → row .left < counts .slots
+      → must ≡ mustCount (counts .choices) domains (row .left) → may ≡ mayCount (counts .choices) domains (row .left) → InWords (counts .choices) domains
+      → test ≡ limitIdle row must may → test ≡ true → domains ≡ limitRule counts row domains
+  limit-spared must may test c s h a b w e t =
+      limit-done must may domains c s h a b
+      (sym (each-same (counts .choices) (limitStep row must may) domains
+      λ i l. limit-keeps row must may (sym e ∙ t) (omega (arith, s, h)) (getD domains i 0) (words-at (counts .choices) domains i w l)))

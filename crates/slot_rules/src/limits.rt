@@ -7,11 +7,13 @@ use place_sets::places::is_only;
 use place_sets::places::kept;
 ghost use mathlib.Core.Path.{_≡_};
 ghost use mathlib.Core.Bool.{_&&_, not};
-ghost use Prim.Native.Nat.{_+_, _-_, _≤_, _<_};
+ghost use Prim.Native.Nat.{_+_, _-_, _^_, _≤_, _<_};
 ghost use lib.Dec.{eqb, leb};
 ghost use Rattle.lists.specs.Below.{one};
 ghost use Rattle.constraint.specs.Row.{rowOf};
+ghost use Rattle.choice_sets.specs.Sets.{has};
 ghost use Rattle.slot_rules.specs.SlotRules.{mustCount, mayCount, opCan, limitLeaves, limitRule};
+ghost use Rattle.slot_rules.specs.steps.Limits.{limitIdle, InWords};
 
 // How many choices must stand in a slot, and how many may.
 struct SlotCounts {
@@ -29,10 +31,17 @@ fn one_if(test: bool) -> usize
     0
 }
 
+// 1 for a domain that has the slot; and a domain is a number of 64 bits, which an array behind a reference doesn't tell.
+fn one_if_in(domain: u64, slot: usize) -> usize
+    ensures { λ r. ⌜ (r ≡ one (has domain slot)) × (r ≤ 1) × (domain < 2 ^ 64) ⌝ }
+{
+    one_if(member(domain, slot))
+}
+
 // One pass over the choices for both counts.
 fn slot_counts(choices: usize, slot: usize, domains: &[u64; 64]) -> SlotCounts
     requires { ⌜ choices ≤ 64 ⌝ }
-    ensures { λ r. ⌜ (r .must ≡ mustCount choices (now (domains .entry)) slot) × (r .may ≡ mayCount choices (now (domains .entry)) slot) ⌝ }
+    ensures { λ r. ⌜ (r .must ≡ mustCount choices (now (domains .entry)) slot) × (r .may ≡ mayCount choices (now (domains .entry)) slot) × InWords choices (now (domains .entry)) ⌝ }
 {
     let mut must = 0;
     let mut may = 0;
@@ -40,7 +49,7 @@ fn slot_counts(choices: usize, slot: usize, domains: &[u64; 64]) -> SlotCounts
     while choice < choices {
         let domain = domains[choice];
         must += one_if(is_only(domain, slot));
-        may += one_if(member(domain, slot));
+        may += one_if_in(domain, slot);
         choice += 1;
     }
     SlotCounts { must, may }
@@ -129,12 +138,41 @@ fn limit_leaves(row: Row, counts: SlotCounts, domain: u64) -> u64
     kept(domain, slot, stands, leaves)
 }
 
+// Whether the limit can be kept whichever one choice stands in the slot or elsewhere, so that the pass over the domains can be spared.
+fn is_slack(row: Row, counts: SlotCounts) -> bool
+    requires { ⌜ (counts .must ≤ 64) × (counts .may ≤ 64) ⌝ }
+    ensures { λ r. ⌜ r ≡ limitIdle row (counts .must) (counts .may) ⌝ }
+{
+    let limit = row.right as usize;
+    if !op_can(row.extra, counts.must + 1, counts.may, limit) {
+        return false;
+    }
+    if !op_can(row.extra, counts.must, without(counts.may, true), limit) {
+        return false;
+    }
+    if !op_can(row.extra, counts.must, counts.may, limit) {
+        return false;
+    }
+    if !op_can(row.extra, counts.must + 1, counts.may + 1, limit) {
+        return false;
+    }
+    op_can(
+        row.extra,
+        without(counts.must, true),
+        without(counts.may, true),
+        limit,
+    )
+}
+
 // What the limit leaves of every domain.
 fn narrow_each(counts: Counts, row: Row, domains: &mut [u64; 64])
     requires { ⌜ (counts .choices ≤ 64) × (counts .slots ≤ 24) × (row .left < counts .slots) ⌝ }
     ensures { λ r. ⌜ now (domains .exit) ≡ limitRule counts row (now (domains .entry)) ⌝ }
 {
     let slot_counts = slot_counts(counts.choices, row.left as usize, domains);
+    if is_slack(row, slot_counts) {
+        return;
+    }
     let mut choice = 0;
     while choice < counts.choices {
         domains[choice] = limit_leaves(row, slot_counts, domains[choice]);

@@ -7,17 +7,18 @@ use native.Mathlib.Decide.{ℕ-discrete}
 use native.Mathlib.Numerals.{add-one}
 use native.Mathlib.Nat.{not-suc-le-zero}
 use native.Mathlib.Omega.{arith}
-use borrow.Author.Tests.{lt-ltb, le-ltb}
-use lib.Dec.{ltb}
-use lib.ListN.{length, getD, set}
+use borrow.Author.Tests.{lt-ltb, le-ltb, ltb-false, lt-leb, le-leb, eq-eqb, ne-eqb}
+use lib.Dec.{eqb, ltb, leb}
+use lib.ListN.{length, getD, set, replicate}
 use Rattle.lists.specs.Below.{sumBelow}
 use Rattle.lists.proofs.Below.{sum-more}
+use Rattle.constraint.specs.declared.check.Counts.{Counts}
 use Rattle.choice_sets.specs.Sets.{has, setOf, withChoice}
 use Rattle.choice_sets.proofs.SetLaws.{with-next, set-skip, set-none}
 use Rattle.weight_tables.specs.Tables.{written}
 use Rattle.weight_tables.proofs.TableLaws.{written-more}
 use Rattle.place_sets.specs.Domains.{settled}
-use Rattle.table_rule.specs.Figures.{freeOf, firstIn, settledIn, settledSum, lackOf}
+use Rattle.table_rule.specs.Figures.{freeOf, firstIn, settledIn, settledSum, lackOf, lacksOf, lacksIn}
 
 -- a set with one choice more, or as it was
 pub if-out : (set choice : ℕ) (inside : Bool) → inside ≡ false → set ≡ cond inside (withChoice set choice) set
@@ -71,6 +72,39 @@ first-found n s b e g t (suc m) h = go (ℕ-discrete n m) (first-found n s b e g
         let l : firstIn m s < m = omega (arith, a, q) in
         rw (lt-ltb (firstIn m s) m l) a
 
+-- the first choice of a set: no choice before it is in the set
+pub first-le : (n set : ℕ) → firstIn n set ≤ n
+unfolding firstIn
+first-le zero set = omega arith
+first-le (suc n) set = go (ltb (firstIn n set) n) refl (has set n) (first-le n set)
+  where
+    go : (b : Bool) → ltb (firstIn n set) n ≡ b → (c : Bool) → firstIn n set ≤ n → cond b (firstIn n set) (cond c n (suc n)) ≤ suc n
+    go true t c h = omega arith
+    go false t true h = omega arith
+    go false t false h = omega arith
+
+pub first-none : (n set choice : ℕ) → choice < firstIn n set → has set choice ≡ false
+unfolding firstIn
+first-none zero set choice h = absurd (not-suc-le-zero h)
+first-none (suc n) set choice h = go (ltb (firstIn n set) n) refl (has set n) refl h (first-none n set choice)
+  where
+    go : (b : Bool) → ltb (firstIn n set) n ≡ b → (c : Bool) → has set n ≡ c → choice < cond b (firstIn n set) (cond c n (suc n))
+        → (choice < firstIn n set → has set choice ≡ false) → has set choice ≡ false
+    go true t c u h ih = ih h
+    go false t true u h ih = ih (omega (arith, ltb-false (firstIn n set) n t))
+    go false t false u h ih =
+        elim (ℕ-discrete choice n) [
+          | yes e ↦ rw e u
+          | no q ↦ ih (omega (arith, ltb-false (firstIn n set) n t, q))
+        ]
+
+-- as the code has it: a number that is the first choice of the set
+pub first-within : (n set from : ℕ) → from ≡ firstIn n set → from ≤ n
+first-within n set from e = rw e (first-le n set)
+
+pub first-before : (n set from : ℕ) → from ≡ firstIn n set → (choice : ℕ) → choice < from → has set choice ≡ false
+first-before n set from e choice h = first-none n set choice (omega (arith, e, h))
+
 -- what one choice brings to a slot
 module _ (free stands : Bool) (most : ℕ) where
   pub part-free : free ≡ true → 0 ≡ cond (not free && stands) most 0
@@ -110,3 +144,38 @@ lacks-step choices choosers maxs free domains slot sum lack before lacks l s k =
     let z : slot ≡ 0 + slot = omega arith in
     ap (λ (x : List ℕ). set x slot lack) l ∙ ap (λ (x : ℕ). set (written slot 0 f before) slot x) e
     ∙ ap (λ (x : ℕ). set (written slot 0 f before) x (f slot)) z ∙ written-more 0 f before slot
+
+-- the free choices as other crates ask for them
+module _ (choices : ℕ) (domains : List ℕ) where
+  pub free-many : 64 < choices → 0 ≡ cond (leb choices 64) (freeOf choices domains) 0
+  free-many h = rw (lt-leb _ _ h)
+
+  pub free-few : (result : ℕ) → choices ≤ 64 → result ≡ freeOf choices domains → result ≡ cond (leb choices 64) (freeOf choices domains) 0
+  free-few result h e = rw (le-leb _ _ h) e
+
+-- the lacks as other crates ask for them
+module _ (counts : Counts) (maxs : List ℕ) (free : ℕ) (domains none : List ℕ) (n : none ≡ replicate 24 0) where
+  pub lacks-many-choices : 64 < counts .choices → none ≡ lacksIn counts maxs free domains
+  unfolding lacksIn
+  lacks-many-choices h = rw (lt-leb _ _ h) n
+
+  pub lacks-other-length : counts .choices ≤ 64 → (length maxs ≡ counts .choices → ⊥) → none ≡ lacksIn counts maxs free domains
+  unfolding lacksIn
+  lacks-other-length h e = rw (le-leb _ _ h, ne-eqb _ _ e) n
+
+  pub lacks-many-slots : counts .choices ≤ 64 → length maxs ≡ counts .choices → 24 < counts .slots → none ≡ lacksIn counts maxs free domains
+  unfolding lacksIn
+  lacks-many-slots h e s = rw (le-leb _ _ h, eq-eqb _ _ e, lt-leb _ _ s) n
+
+  pub lacks-are : (lacks : List ℕ) → counts .choices ≤ 64 → length maxs ≡ counts .choices → counts .slots ≤ 24
+      → lacks ≡ written (counts .slots) 0 (lackOf (counts .choices) (counts .choosers) maxs free domains) none → lacks ≡ lacksIn counts maxs free domains
+  unfolding lacksIn lacksOf
+  lacks-are lacks h e s l =
+      rw (le-leb _ _ h, eq-eqb _ _ e, le-leb _ _ s)
+      (l ∙ ap (λ (x : List ℕ). written (counts .slots) 0 (lackOf (counts .choices) (counts .choosers) maxs free domains) x) n)
+
+-- and of a day that has the shape they are the lacks
+pub lacks-in : (counts : Counts) (maxs : List ℕ) (free : ℕ) (domains : List ℕ) → counts .choices ≤ 64 → length maxs ≡ counts .choices → counts .slots ≤ 24
+    → lacksIn counts maxs free domains ≡ lacksOf (counts .slots) (counts .choices) (counts .choosers) maxs free domains
+unfolding lacksIn
+lacks-in counts maxs free domains h e s = rw (le-leb _ _ h, eq-eqb _ _ e, le-leb _ _ s)

@@ -3,3 +3,4 @@ pub mod FigureLaws
 pub mod RuleLaws
 pub mod FillLaws
 pub mod WithinLaws
+pub mod EnoughPlaces

@@ -2,7 +2,7 @@
 use mathlib.Core.Path.{_≡_, refl, sym, _∙_, ap}
 use mathlib.Core.Bool.{Bool, true, false, _&&_, not, cond}
 use mathlib.Core.List.{List}
-use Prim.Native.Nat.{ℕ, zero, suc, _+_, _-_, _*_, _≤_, _<_}
+use Prim.Native.Nat.{ℕ, _+_, _-_, _*_, _≤_, _<_}
 use native.Mathlib.Numerals.{add-one}
 use native.Mathlib.Omega.{arith}
 use borrow.Author.Tests.{lt-ltb, le-ltb, le-leb, lt-leb, eq-eqb, ne-eqb}
@@ -10,14 +10,18 @@ use lib.Dec.{eqb, ltb, leb}
 use lib.ListN.{length, getD, set, replicate}
 use Rattle.lists.specs.Below.{sumBelow}
 use Rattle.lists.proofs.Below.{sum-more}
+use Rattle.lists.proofs.SumBelow.{sum-ext}
 use Rattle.constraint.specs.declared.check.Counts.{Counts}
 use Rattle.choice_sets.specs.Sets.{has, setOf}
-use Rattle.weight_tables.specs.Weights.{weightOf}
+use Rattle.weight_tables.specs.Weights.{weightOf, largestWeight}
 use Rattle.weight_tables.specs.Tables.{tablesFit, written}
+use Rattle.weight_tables.proofs.WeightLaws.{below-zeros}
+use Rattle.weight_tables.proofs.TableLaws.{weight-largest}
 use Rattle.place_sets.specs.Domains.{eachBelow}
-use Rattle.place_sets.proofs.DomainLaws.{each-at}
+use Rattle.place_sets.proofs.DomainLaws.{each-at, each-same}
 use Rattle.table_rule.specs.Figures.{freeOf, firstIn, lackOf, lacksOf}
 use Rattle.table_rule.specs.Rule.{needOf, spareOf, slotKept, leftOf, tableRule, tablesBelow, fiveTables, tablesRule}
+use Rattle.table_rule.proofs.FigureLaws.{first-before}
 
 -- a free choice's weight
 pub weight-none : (free : Bool) (x : ℕ) → free ≡ false → 0 ≡ cond free x 0
@@ -26,10 +30,14 @@ weight-none free x t = rw t
 pub weight-some : (free : Bool) (x result : ℕ) → free ≡ true → result ≡ x → result ≡ cond free x 0
 weight-some free x result t e = rw t e
 
--- what the free choices weigh, one more
-pub spare-start : (choosers : ℕ) (maxs : List ℕ) (table free : ℕ) → 0 ≡ spareOf 0 choosers maxs table free
-unfolding spareOf sumBelow
-spare-start choosers maxs table free = refl
+-- what the free choices weigh: nothing before the first of them, then one more
+pub spare-start : (choices choosers : ℕ) (maxs : List ℕ) (table free from : ℕ) → from ≡ firstIn choices free → 0 ≡ spareOf from choosers maxs table free
+unfolding spareOf
+spare-start choices choosers maxs table free from e =
+    let f : ℕ → ℕ = λ choice. cond (has free choice) (weightOf choosers table (getD maxs choice 0)) 0 in
+    sym
+    (sum-ext from f (λ k. 0) (λ k h. ap (λ (b : Bool). cond b (weightOf choosers table (getD maxs k 0)) 0) (first-before choices free from e k h))
+    ∙ below-zeros from)
 
 pub spare-step : (choosers : ℕ) (maxs : List ℕ) (table free n spare part : ℕ) (inside : Bool) → spare ≡ spareOf n choosers maxs table free → inside ≡ has free n
     → part ≡ cond inside (weightOf choosers table (getD maxs n 0)) 0 → spare + part ≡ spareOf (n + 1) choosers maxs table free
@@ -41,6 +49,11 @@ spare-step choosers maxs table free n spare part inside s i p =
 -- a choice that isn't free keeps its domain
 pub next-same : (free : Bool) (x domain : ℕ) → free ≡ false → domain ≡ cond free x domain
 next-same free x domain t = rw t
+
+-- of two that are the same either is the second
+cond-same : (b : Bool) (x y : ℕ) → x ≡ y → cond b x y ≡ y
+cond-same true x y e = e
+cond-same false x y e = refl
 
 module _ (entry : ℕ → ℕ → ℕ → ℕ) where
   -- what the lacks weigh, one slot more
@@ -90,11 +103,19 @@ module _ (entry : ℕ → ℕ → ℕ → ℕ) where
       ∙ ap (λ (x : ℕ). leftOf entry slots table from lacks (weightOf choosers table most) x need spare domain) m
       ∙ sym (ap (λ (b : Bool). cond b (leftOf entry slots table from lacks (weightOf choosers table most) most need spare domain) domain) t)
 
-  -- the domains, one choice more
+  -- the domains by one table's rule
   module _ (counts : Counts) (maxs : List ℕ) (table free from : ℕ) (lacks : List ℕ) where
-    pub once-start : (domains : List ℕ) → domains ≡ eachBelow 0 (tableRule entry counts maxs table free from lacks) domains
-    unfolding eachBelow
-    once-start domains = refl
+    -- a choice that isn't free keeps its domain
+    rule-settled : (choice domain : ℕ) → has free choice ≡ false → tableRule entry counts maxs table free from lacks choice domain ≡ domain
+    unfolding tableRule
+    rule-settled choice domain t = rw t
+
+    -- up to the first free choice they are as they were, then one choice more
+    pub once-start : (domains : List ℕ) → from ≡ firstIn (counts .choices) free → domains ≡ eachBelow from (tableRule entry counts maxs table free from lacks) domains
+    once-start domains e =
+        sym
+        (each-same from (tableRule entry counts maxs table free from lacks) domains λ choice h.
+        rule-settled choice (getD domains choice 0) (first-before (counts .choices) free from e choice h))
 
     pub once-step : (before domains : List ℕ) (n need spare result : ℕ) (inside : Bool) → domains ≡ eachBelow n (tableRule entry counts maxs table free from lacks) before
         → n < length before → need ≡ needOf entry (counts .slots) table from lacks → spare ≡ spareOf (counts .choices) (counts .choosers) maxs table free
@@ -116,6 +137,26 @@ module _ (entry : ℕ → ℕ → ℕ → ℕ) where
         ∙ ap (λ (x : ℕ). cond (has free n) (leftOf entry (counts .slots) table from lacks w m x spare (getD before n 0)) (getD before n 0)) q
         ∙ ap (λ (x : ℕ). cond (has free n) (leftOf entry (counts .slots) table from lacks w m (needOf entry (counts .slots) table from lacks) x (getD before n 0)) (getD before n 0)) s in
         rw add-one (ap (λ (x : List ℕ). set x n result) d ∙ ap (λ (x : ℕ). set (eachBelow n rule before) n x) e)
+
+    -- a table that can do without any one choice leaves every domain
+    rule-keeps : (choice domain : ℕ)
+        → needOf entry (counts .slots) table from lacks + largestWeight (counts .choosers) table ≤ spareOf (counts .choices) (counts .choosers) maxs table free
+        → tableRule entry counts maxs table free from lacks choice domain ≡ domain
+    unfolding tableRule
+    rule-keeps choice domain h =
+        let m : ℕ = getD maxs choice 0 in
+        let w : ℕ = weightOf (counts .choosers) table m in
+        let need : ℕ = needOf entry (counts .slots) table from lacks in
+        let spare : ℕ = spareOf (counts .choices) (counts .choosers) maxs table free in
+        let l : w ≤ largestWeight (counts .choosers) table = weight-largest (counts .choosers) table m in
+        cond-same (has free choice) (leftOf entry (counts .slots) table from lacks w m need spare domain) domain
+        (sym (left-all (counts .slots) table from lacks w m need spare domain (omega (arith, h, l))))
+
+    pub once-spared : (domains : List ℕ) (need spare largest : ℕ) → need ≡ needOf entry (counts .slots) table from lacks
+        → spare ≡ spareOf (counts .choices) (counts .choosers) maxs table free → largest ≡ largestWeight (counts .choosers) table → need + largest ≤ spare
+        → domains ≡ eachBelow (counts .choices) (tableRule entry counts maxs table free from lacks) domains
+    once-spared domains need spare largest n s l h =
+        sym (each-same (counts .choices) (tableRule entry counts maxs table free from lacks) domains λ i under. rule-keeps i (getD domains i 0) (omega (arith, n, s, l, h)))
 
     -- the tables, one more
     pub each-start : (domains : List ℕ) → domains ≡ tablesBelow entry counts maxs free from lacks 0 domains

@@ -3,8 +3,6 @@ use mathlib.Core.Path.{_≡_, refl, sym, _∙_, ap}
 use mathlib.Core.Bool.{Bool, true, false, _&&_, not, cond, false≢true}
 use mathlib.Core.List.{List}
 use Prim.Native.Nat.{ℕ, zero, suc, _+_, _-_, _≤_, _<_}
-use native.Mathlib.Decide.{ℕ-discrete}
-use native.Mathlib.Nat.{zero-add, not-suc-le-zero}
 use native.Mathlib.Omega.{arith}
 use borrow.Author.Tests.{lt-ltb, le-ltb, ltb-true, ltb-false, le-leb, leb-true, leb-false, eq-eqb, ne-eqb, eqb-true}
 use lib.Dec.{eqb, ltb, leb}
@@ -29,33 +27,8 @@ use Rattle.place_sets.specs.Domains.{placeNumber, Within, eachBelow}
 use Rattle.place_sets.proofs.DomainLaws.{number-in, number-out, each-length, each-within}
 use Rattle.table_rule.specs.Figures.{freeOf, firstIn, settledIn, settledSum, lackOf, lacksOf}
 use Rattle.table_rule.specs.Rule.{needOf, spareOf, slotKept, leftOf, tableRule, tablesBelow, fiveTables, tablesRule}
+use Rattle.table_rule.proofs.FigureLaws.{first-le, first-none}
 use Rattle.table_rule.proofs.FillLaws.{lacks-weigh, one-out, change-one}
-
--- the first choice of a set: no choice before it is in the set
-pub first-le : (n set : ℕ) → firstIn n set ≤ n
-unfolding firstIn
-first-le zero set = omega arith
-first-le (suc n) set = go (ltb (firstIn n set) n) refl (has set n) (first-le n set)
-  where
-    go : (b : Bool) → ltb (firstIn n set) n ≡ b → (c : Bool) → firstIn n set ≤ n → cond b (firstIn n set) (cond c n (suc n)) ≤ suc n
-    go true t c h = omega arith
-    go false t true h = omega arith
-    go false t false h = omega arith
-
-pub first-none : (n set choice : ℕ) → choice < firstIn n set → has set choice ≡ false
-unfolding firstIn
-first-none zero set choice h = absurd (not-suc-le-zero h)
-first-none (suc n) set choice h = go (ltb (firstIn n set) n) refl (has set n) refl h (first-none n set choice)
-  where
-    go : (b : Bool) → ltb (firstIn n set) n ≡ b → (c : Bool) → has set n ≡ c → choice < cond b (firstIn n set) (cond c n (suc n))
-        → (choice < firstIn n set → has set choice ≡ false) → has set choice ≡ false
-    go true t c u h ih = ih h
-    go false t true u h ih = ih (omega (arith, ltb-false (firstIn n set) n t))
-    go false t false u h ih =
-        elim (ℕ-discrete choice n) [
-          | yes e ↦ rw e u
-          | no q ↦ ih (omega (arith, ltb-false (firstIn n set) n t, q))
-        ]
 
 -- a free choice taken out of a sum
 out-of : (e f s : Bool) (x : ℕ) → cond e 0 (cond (f && s) x 0) ≡ cond ((f && not e) && s) x 0
@@ -310,7 +283,7 @@ module _ (day : Day) (plan : List ℕ) (feasibly : feasible day plan ≡ true) (
       λ i hi hp d. rule-keeps n i (getD (tablesBelow entry (day .counts) (day .maxs) free from lacks n domains) i 0) (omega arith) hi d
 
 -- a slot's lack stands at its place
-lacks-at : (slots choices choosers : ℕ) (maxs : List ℕ) (free : ℕ) (domains : List ℕ) → slots ≤ 24 → (slot : ℕ) → slot < slots
+pub lacks-at : (slots choices choosers : ℕ) (maxs : List ℕ) (free : ℕ) (domains : List ℕ) → slots ≤ 24 → (slot : ℕ) → slot < slots
     → getD (lacksOf slots choices choosers maxs free domains) slot 0 ≡ lackOf choices choosers maxs free domains slot
 unfolding lacksOf
 lacks-at slots choices choosers maxs free domains few slot hs =
@@ -320,11 +293,11 @@ lacks-at slots choices choosers maxs free domains few slot hs =
     ap (λ (x : ℕ). getD (written slots 0 f (replicate 24 0)) x 0) z ∙ written-in 0 f (replicate 24 0) slots slot (omega (arith, n)) hs
 
 -- what the tables' shape says
-fit-choices : (counts : Counts) (maxs : List ℕ) → tablesFit counts maxs ≡ true → counts .choices ≤ 64
+pub fit-choices : (counts : Counts) (maxs : List ℕ) → tablesFit counts maxs ≡ true → counts .choices ≤ 64
 unfolding tablesFit
 fit-choices counts maxs t = leb-true _ _ (and-left (leb (counts .choices) 64) (leb (counts .choosers) 200 && eqb (length maxs) (counts .choices)) t)
 
-fit-choosers : (counts : Counts) (maxs : List ℕ) → tablesFit counts maxs ≡ true → counts .choosers ≤ 200
+pub fit-choosers : (counts : Counts) (maxs : List ℕ) → tablesFit counts maxs ≡ true → counts .choosers ≤ 200
 unfolding tablesFit
 fit-choosers counts maxs t =
     leb-true _ _ (and-left (leb (counts .choosers) 200) (eqb (length maxs) (counts .choices)) (and-right (leb (counts .choices) 64) (leb (counts .choosers) 200 && eqb (length maxs) (counts .choices)) t))

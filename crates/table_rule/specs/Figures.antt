@@ -2,9 +2,10 @@
 use mathlib.Core.Bool.{Bool, _&&_, not, cond}
 use mathlib.Core.List.{List}
 use Prim.Native.Nat.{ℕ, zero, suc, _-_}
-use lib.Dec.{ltb}
-use lib.ListN.{getD, replicate}
+use lib.Dec.{eqb, ltb, leb}
+use lib.ListN.{length, getD, replicate}
 use Rattle.lists.specs.Below.{sumBelow}
+use Rattle.constraint.specs.declared.check.Counts.{Counts}
 use Rattle.choice_sets.specs.Sets.{has, setOf}
 use Rattle.weight_tables.specs.Tables.{written}
 use Rattle.place_sets.specs.Domains.{settled}
@@ -33,3 +34,10 @@ lackOf choices choosers maxs free domains slot = choosers - settledSum choices m
 -- what each slot lacks, one after the other
 unfoldable pub lacksOf : ℕ → ℕ → ℕ → List ℕ → ℕ → List ℕ → List ℕ
 lacksOf slots choices choosers maxs free domains = written slots 0 (lackOf choices choosers maxs free domains) (replicate 24 0)
+
+-- what each slot of a day lacks; of a day that has another shape nothing
+unfoldable pub lacksIn : Counts → List ℕ → ℕ → List ℕ → List ℕ
+lacksIn counts maxs free domains =
+    cond (leb (counts .choices) 64 && (eqb (length maxs) (counts .choices) && leb (counts .slots) 24))
+    (lacksOf (counts .slots) (counts .choices) (counts .choosers) maxs free domains)
+    (replicate 24 0)

@@ -1,16 +1,18 @@
 // Which choices are free, the first of them, and what each slot still lacks.
 use choice_sets::set::member;
 use choice_sets::set::with;
+use constraint::check::Counts;
 use place_sets::places::is_settled;
 use weight_tables::entry::less;
 use weight_tables::weight::wide_word;
 ghost use mathlib.Core.Path.{_≡_};
 ghost use mathlib.Core.Bool.{_&&_, not, cond};
 ghost use Prim.Native.Nat.{_+_, _-_, _*_, _≤_, _<_};
+ghost use lib.Dec.{leb};
 ghost use lib.ListN.{length, getD, replicate};
 ghost use Rattle.choice_sets.specs.Sets.{has, withChoice};
 ghost use Rattle.weight_tables.specs.Tables.{written};
-ghost use Rattle.table_rule.specs.Figures.{freeOf, firstIn, settledSum, lackOf};
+ghost use Rattle.table_rule.specs.Figures.{freeOf, firstIn, settledSum, lackOf, lacksIn};
 
 // The set with one choice more if it is to be in it.
 pub(crate) fn with_if(set: u64, choice: usize, inside: bool) -> u64
@@ -38,7 +40,7 @@ pub(crate) fn free_choices(choices: usize, domains: &[u64; 64]) -> u64
 }
 
 // The first choice of a set, or the number of choices if it has none.
-pub(crate) fn first_in(choices: usize, set: u64) -> usize
+pub fn first_in(choices: usize, set: u64) -> usize
     ensures { λ r. ⌜ (r ≡ firstIn choices set) × (r ≤ choices) ⌝ }
 {
     let mut choice = 0;
@@ -108,4 +110,40 @@ pub(crate) fn fill_lacks(
         lacks[slot] = less(choosers, settled_sum(choices, maxs, free, domains, slot));
         slot += 1;
     }
+}
+
+// The free choices of a day of at most 64; of a day of more none.
+pub fn free_of(choices: usize, domains: &[u64; 64]) -> u64
+    ensures { λ r. ⌜ r ≡ cond (leb choices 64) (freeOf choices (now (domains .entry))) 0 ⌝ }
+{
+    if 64 < choices {
+        return 0;
+    }
+    free_choices(choices, domains)
+}
+
+// What each slot lacks; of a day that has another shape nothing.
+pub fn lacks_of(counts: Counts, maxs: &[u16], free: u64, domains: &[u64; 64]) -> [usize; 24]
+    ensures { λ r. ⌜ r ≡ lacksIn counts (now (maxs .entry)) free (now (domains .entry)) ⌝ }
+{
+    let mut lacks = no_lacks();
+    if 64 < counts.choices {
+        return lacks;
+    }
+    if maxs.len() != counts.choices {
+        return lacks;
+    }
+    if 24 < counts.slots {
+        return lacks;
+    }
+    fill_lacks(
+        counts.slots,
+        counts.choices,
+        counts.choosers,
+        maxs,
+        free,
+        domains,
+        &mut lacks,
+    );
+    lacks
 }

@@ -1,4 +1,5 @@
 // What the weight tables leave of the domains.
 
+pub mod enough;
 pub mod figures;
 pub mod rule;

@@ -8,6 +8,7 @@ use choice_sets::set::member;
 use constraint::check::Counts;
 use weight_tables::entry::least_at;
 use weight_tables::entry::less;
+use weight_tables::weight::largest_weight;
 use weight_tables::weight::weight_of;
 use weight_tables::weight::wide_word;
 ghost use mathlib.Core.Path.{_≡_};
@@ -19,10 +20,11 @@ ghost use Rattle.choice_sets.specs.Sets.{setOf};
 ghost use Rattle.weight_tables.specs.Weights.{weightOf};
 ghost use Rattle.weight_tables.specs.Tables.{entryAt};
 ghost use Rattle.place_sets.specs.Domains.{eachBelow};
+ghost use Rattle.table_rule.specs.Figures.{firstIn};
 ghost use Rattle.table_rule.specs.Rule.{needOf, spareOf, slotKept, leftOf, tableRule, tablesBelow, fiveTables, tablesRule};
 
 // What the slots' lacks weigh together.
-fn need_of(
+pub(crate) fn need_of(
     slots: usize,
     table: usize,
     from: usize,
@@ -51,13 +53,20 @@ fn free_weight(free: bool, choosers: usize, table: usize, most: u16) -> usize
     weight_of(choosers, table, most)
 }
 
-// What the free choices weigh together.
-fn spare_of(choices: usize, choosers: usize, maxs: &[u16], table: usize, free: u64) -> usize
-    requires { ⌜ (choices ≤ 64) × (length (now maxs) ≡ choices) ⌝ }
+// What the free choices weigh together, from the first of them on.
+fn spare_of(
+    choices: usize,
+    choosers: usize,
+    maxs: &[u16],
+    table: usize,
+    free: u64,
+    from: usize,
+) -> usize
+    requires { ⌜ (choices ≤ 64) × ((length (now maxs) ≡ choices) × (from ≡ firstIn choices free)) ⌝ }
     ensures { λ r. ⌜ (r ≡ spareOf choices choosers (now (maxs .entry)) table free) × (r ≤ 20971200) ⌝ }
 {
     let mut spare = 0;
-    let mut choice = 0;
+    let mut choice = from;
     while choice < choices {
         spare += free_weight(member(free, choice), choosers, table, maxs[choice]);
         choice += 1;
@@ -91,7 +100,7 @@ fn slot_kept(
 }
 
 // The slots of the domain that stay.
-fn kept_slots(
+pub(crate) fn kept_slots(
     slots: usize,
     table: usize,
     from: usize,
@@ -198,7 +207,7 @@ fn next_domain(
     )
 }
 
-// One table's rule for each choice.
+// One table's rule for each choice from the first free one on; where the slots can do without any one choice, no domain changes.
 fn narrow_once(
     counts: Counts,
     maxs: &[u16],
@@ -209,12 +218,15 @@ fn narrow_once(
     lacks: &[usize; 24],
     domains: &mut [u64; 64],
 )
-    requires { ⌜ ((counts .choices ≤ 64) × (counts .slots ≤ 24)) × ((length (now maxs) ≡ counts .choices) × (length (now domains) ≡ 64)) ⌝ }
+    requires { ⌜ ((counts .choices ≤ 64) × (counts .slots ≤ 24)) × ((length (now maxs) ≡ counts .choices) × ((length (now domains) ≡ 64) × ((counts .choosers ≤ 200) × (from ≡ firstIn (counts .choices) free)))) ⌝ }
     ensures { λ r. ⌜ now (domains .exit) ≡ eachBelow (counts .choices) (tableRule (entryAt (now (tables .entry))) counts (now (maxs .entry)) table free from (now (lacks .entry))) (now (domains .entry)) ⌝ }
 {
     let need = need_of(counts.slots, table, from, lacks, tables);
-    let spare = spare_of(counts.choices, counts.choosers, maxs, table, free);
-    let mut choice = 0;
+    let spare = spare_of(counts.choices, counts.choosers, maxs, table, free, from);
+    if need + largest_weight(counts.choosers, table) <= spare {
+        return;
+    }
+    let mut choice = from;
     while choice < counts.choices {
         let inside = member(free, choice);
         let most = maxs[choice];
@@ -246,7 +258,7 @@ fn narrow_each(
     lacks: &[usize; 24],
     domains: &mut [u64; 64],
 )
-    requires { ⌜ ((counts .choices ≤ 64) × (counts .slots ≤ 24)) × ((length (now maxs) ≡ counts .choices) × (length (now domains) ≡ 64)) ⌝ }
+    requires { ⌜ ((counts .choices ≤ 64) × (counts .slots ≤ 24)) × ((length (now maxs) ≡ counts .choices) × ((length (now domains) ≡ 64) × ((counts .choosers ≤ 200) × (from ≡ firstIn (counts .choices) free)))) ⌝ }
     ensures { λ r. ⌜ now (domains .exit) ≡ tablesBelow (entryAt (now (tables .entry))) counts (now (maxs .entry)) free from (now (lacks .entry)) 5 (now (domains .entry)) ⌝ }
 {
     let mut table = 0;
@@ -261,7 +273,7 @@ fn told(domains: &[u64]) {}
 
 // The five tables by the figures of the domains as they are.
 fn narrow_fitting(counts: Counts, maxs: &[u16], tables: &[u16; 65325], domains: &mut [u64; 64])
-    requires { ⌜ ((counts .choices ≤ 64) × (counts .slots ≤ 24)) × (length (now maxs) ≡ counts .choices) ⌝ }
+    requires { ⌜ ((counts .choices ≤ 64) × (counts .slots ≤ 24)) × ((length (now maxs) ≡ counts .choices) × (counts .choosers ≤ 200)) ⌝ }
     ensures { λ r. ⌜ now (domains .exit) ≡ fiveTables (entryAt (now (tables .entry))) counts (now (maxs .entry)) (now (domains .entry)) ⌝ }
 {
     told(domains);

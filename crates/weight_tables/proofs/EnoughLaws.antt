@@ -1,15 +1,15 @@
--- Whether enough choices are left: each way through the test, and that no start of a feasible plan fails it.
+-- Whether enough choices are left: what the test says, and that no start of a feasible plan fails it.
 use mathlib.Core.Path.{_≡_, refl, sym, _∙_, ap}
-use mathlib.Core.Bool.{Bool, true, false, _&&_, _||_, not, cond, or-true}
+use mathlib.Core.Bool.{Bool, true, false, _&&_, _||_, not, cond}
 use mathlib.Core.List.{List, [], _∷_}
 use Prim.Native.Nat.{ℕ, zero, suc, _+_, _-_, _*_, _≤_, _<_}
 use native.Mathlib.Omega.{arith}
-use borrow.Author.Tests.{lt-ltb, le-ltb, le-leb, lt-leb, eqb-true}
+use borrow.Author.Tests.{le-ltb, le-leb, eqb-true}
 use lib.Dec.{eqb, ltb, leb}
 use lib.ListN.{length, getD, take}
 use lib.Seq.{length-take-le}
 use Rattle.lists.specs.Below.{sumBelow}
-use Rattle.lists.proofs.Below.{and-right, sum-more}
+use Rattle.lists.proofs.Below.{and-right}
 use Rattle.lists.proofs.SumBelow.{sum-ext}
 use Rattle.constraint.specs.declared.check.Counts.{Counts}
 use Rattle.scheduling.specs.Day.{Day}
@@ -21,24 +21,9 @@ use Rattle.weight_tables.specs.Tables.{Filled, entryAt, enoughLeft}
 use Rattle.weight_tables.proofs.WeightLaws.{sum-join, from-le, from-ones, below-le, least-weighs, slots-weigh}
 use Rattle.weight_tables.proofs.TableLaws.{weight-one, entry-least}
 
--- the test, a law for each way through it
+-- the test
 module _ (entry : ℕ → ℕ → ℕ → ℕ) (slots choosers choices from : ℕ) (fills : List ℕ) where
-  pub enough-slots : 24 < slots → true ≡ enoughLeft entry slots choosers choices from fills
-  unfolding enoughLeft
-  enough-slots h = rw (lt-ltb _ _ h)
-
-  pub enough-choosers : slots ≤ 24 → 200 < choosers → true ≡ enoughLeft entry slots choosers choices from fills
-  unfolding enoughLeft
-  enough-choosers s h = rw (le-ltb _ _ s, lt-ltb _ _ h)
-
-  pub enough-choices : slots ≤ 24 → choosers ≤ 200 → 64 < choices → true ≡ enoughLeft entry slots choosers choices from fills
-  unfolding enoughLeft
-  enough-choices s h c = rw (le-ltb _ _ s, le-ltb _ _ h, lt-ltb _ _ c)
-
-  pub enough-from : slots ≤ 24 → choosers ≤ 200 → choices ≤ 64 → choices < from → true ≡ enoughLeft entry slots choosers choices from fills
-  unfolding enoughLeft
-  enough-from s h c f = rw (le-ltb _ _ s, le-ltb _ _ h, le-ltb _ _ c, lt-ltb _ _ f)
-
+  -- within the limits it compares the need with what is left
   pub enough-need : (need : ℕ) → slots ≤ 24 → choosers ≤ 200 → choices ≤ 64 → from ≤ choices
       → need ≡ sumBelow slots (λ slot. entry 0 from (choosers - getD fills slot 0))
       → leb need (choices - from) ≡ enoughLeft entry slots choosers choices from fills
@@ -56,15 +41,6 @@ module _ (entry : ℕ → ℕ → ℕ → ℕ) (slots choosers choices from : �
       go false false true d h = refl
       go false false false true h = refl
       go false false false false h = h
-
--- what the lacks weigh, one slot more
-pub need-step : (tables fills : List ℕ) (choosers from slot need lack part : ℕ)
-    → need ≡ sumBelow slot (λ s. entryAt tables 0 from (choosers - getD fills s 0)) → lack ≡ choosers - getD fills slot 0 → part ≡ entryAt tables 0 from lack
-    → need + part ≡ sumBelow (slot + 1) λ s. entryAt tables 0 from (choosers - getD fills s 0)
-need-step tables fills choosers from slot need lack part a l p =
-    ap (λ (x : ℕ). x + part) a
-    ∙ ap (λ (x : ℕ). sumBelow slot (λ s. entryAt tables 0 from (choosers - getD fills s 0)) + x) (p ∙ ap (λ (x : ℕ). entryAt tables 0 from x) l)
-    ∙ sym (sum-more (λ s. entryAt tables 0 from (choosers - getD fills s 0)) slot)
 
 -- over filled tables the test speaks of least weights
 pub enough-filled : (counts : Counts) (maxs tables : List ℕ) → Filled counts maxs tables → counts .choices ≤ 64 → counts .choosers ≤ 200

@@ -5,7 +5,7 @@ use mathlib.Core.List.{List}
 use Prim.Native.Nat.{ℕ, zero, suc, _+_, _-_, _*_, _/_, _≤_, _<_, min}
 use native.Mathlib.Decide.{ℕ-discrete}
 use native.Mathlib.Numerals.{add-one}
-use native.Mathlib.Nat.{not-suc-le-zero, mul-le-mul, one-le-mul, div-le-self, div-eq-of-lt, mul-one}
+use native.Mathlib.Nat.{not-suc-le-zero, mul-comm, mul-le-mul, mul-le-mul-right, one-le-mul, div-lt-iff-lt-mul, div-le-of-le-mul, mul-div-cancel}
 use native.Mathlib.Omega.{arith}
 use borrow.Author.Tests.{lt-ltb, le-ltb, le-leb, lt-leb, eq-eqb, ne-eqb}
 use lib.Arith.{digits-div}
@@ -13,7 +13,7 @@ use lib.Dec.{eqb, ltb, leb}
 use lib.ListN.{length, getD, set, length-set}
 use lib.Seq.{getD-set-same, getD-set-other}
 use Rattle.constraint.specs.declared.check.Counts.{Counts}
-use Rattle.weight_tables.specs.Weights.{scaleOf, partsOf, weightOf, lastEntry, least, leastOf}
+use Rattle.weight_tables.specs.Weights.{scaleOf, partsOf, sidesOf, headsWeigh, weightOf, largestWeight, lastEntry, least, leastOf}
 use Rattle.weight_tables.specs.Tables.{tablesFit, Filled, Fills, entryAt, written, nextEntry, Filling}
 
 -- a table's scale, case by case
@@ -22,17 +22,9 @@ module _ (table : ℕ) where
   unfolding scaleOf
   scale-one e = rw e
 
-  pub scale-two : table ≡ 2 → 2 ≡ scaleOf table
+  pub scale-five : (table ≡ 0 → ⊥) → 5 ≡ scaleOf table
   unfolding scaleOf
-  scale-two e = rw e
-
-  pub scale-three : table ≡ 3 → 3 ≡ scaleOf table
-  unfolding scaleOf
-  scale-three e = rw e
-
-  pub scale-five : (table ≡ 0 → ⊥) → (table ≡ 2 → ⊥) → (table ≡ 3 → ⊥) → 5 ≡ scaleOf table
-  unfolding scaleOf
-  scale-five a b c = rw (ne-eqb _ _ a, ne-eqb _ _ b, ne-eqb _ _ c)
+  scale-five n = rw (ne-eqb _ _ n)
 
 -- parts of a headcount: none, or some, which are no more than heads by scale
 module _ (choosers scale heads : ℕ) where
@@ -61,36 +53,138 @@ module _ (choosers scale heads : ℕ) where
   pub parts-last : heads ≤ choosers → scale ≤ 5 → heads * scale ≤ choosers * 5
   parts-last h s = mul-le-mul {n₂ = choosers} {m₂ = 5} h s
 
--- a weight by heads or by parts
-module _ (choosers table most : ℕ) where
-  pub weight-heads : table ≡ 1 → min most choosers ≡ weightOf choosers table most
-  unfolding weightOf
-  weight-heads e = rw e
+  -- no more parts than the headcount has
+  pub parts-largest : heads ≤ choosers → 1 ≤ scale → partsOf choosers scale heads ≤ scale
+  unfolding partsOf
+  parts-largest h s = go (ℕ-discrete heads 0)
+    where
+      go : Dec (heads ≡ 0) → cond (eqb heads 0) 0 ((heads * scale - 1) / choosers + 1) ≤ scale
+      go (yes e) = rw e (omega arith)
+      go (no n) =
+          let m : heads * scale ≤ scale * choosers = rw (mul-comm scale choosers) (mul-le-mul-right scale h) in
+          let l : heads * scale - 1 < scale * choosers = omega (arith, m, parts-least n s) in
+          let q : (heads * scale - 1) / choosers < scale = div-lt-iff-lt-mul {k = choosers} {x = heads * scale - 1} {y = scale} (omega arith) .1 l in
+          rw (ne-eqb heads 0 n) (omega (arith, q))
 
-  pub weight-parts : (table ≡ 1 → ⊥) → partsOf choosers (scaleOf table) (min most choosers) ≡ weightOf choosers table most
-  unfolding weightOf
-  weight-parts n = rw (ne-eqb _ _ n)
+-- sides of the parts of a headcount: none, the whole, exactly so many, or between two
+module _ (choosers scale heads : ℕ) where
+  pub sides-none : heads ≡ 0 → 0 ≡ sidesOf choosers scale heads
+  unfolding sidesOf
+  sides-none e = rw e
 
-  -- as the code comes by it
-  pub weight-by-heads : (heads word : ℕ) → heads ≡ min word choosers → word ≡ most → table ≡ 1 → heads ≡ weightOf choosers table most
-  weight-by-heads heads word h w e = h ∙ ap (λ (x : ℕ). min x choosers) w ∙ weight-heads e
+  pub sides-whole : (heads ≡ 0 → ⊥) → choosers ≤ heads → 2 * scale + 2 ≡ sidesOf choosers scale heads
+  unfolding sidesOf
+  sides-whole n h = rw (ne-eqb _ _ n, le-leb _ _ h)
 
-  pub weight-by-parts : (heads word scale parts : ℕ) → heads ≡ min word choosers → word ≡ most → scale ≡ scaleOf table → parts ≡ partsOf choosers scale heads
-      → (table ≡ 1 → ⊥) → parts ≡ weightOf choosers table most
-  weight-by-parts heads word scale parts h w s p n =
-      p ∙ ap (λ (x : ℕ). partsOf choosers x heads) s
-      ∙ ap (λ (x : ℕ). partsOf choosers (scaleOf table) x) (h ∙ ap (λ (x : ℕ). min x choosers) w) ∙ weight-parts n
+  pub sides-exactly : (k : ℕ) → (heads ≡ 0 → ⊥) → heads < choosers → heads * scale ≡ k * choosers → 2 * k + 1 ≡ sidesOf choosers scale heads
+  unfolding sidesOf
+  sides-exactly k n h e =
+      let q : heads * scale / choosers ≡ k = ap (λ (x : ℕ). x / choosers) e ∙ mul-div-cancel k (omega arith) in
+      rw (ne-eqb _ _ n, lt-leb _ _ h, q, eq-eqb _ _ e)
+
+  pub sides-between : (k : ℕ) → (heads ≡ 0 → ⊥) → heads < choosers → k * choosers < heads * scale → heads * scale < k * choosers + choosers
+      → 2 * k + 2 ≡ sidesOf choosers scale heads
+  unfolding sidesOf
+  sides-between k n h a b =
+      let r = heads * scale - k * choosers in
+      let e : heads * scale ≡ k * choosers + r = omega (arith, a) in
+      let l : r < choosers = omega (arith, a, b) in
+      let q : heads * scale / choosers ≡ k = ap (λ (x : ℕ). x / choosers) e ∙ digits-div k l in
+      rw (ne-eqb _ _ n, lt-leb _ _ h, q, ne-eqb (heads * scale) (k * choosers) (λ z. omega (arith, a, z)))
+
+  pub sides-fit : heads ≤ 65535 → scale ≤ 3 → heads * scale ≤ 196605
+  sides-fit h s = mul-le-mul {n₂ = 65535} {m₂ = 3} h s
+
+  -- less than a headcount has fewer than three parts of three
+  pub sides-last : heads < choosers → scale ≤ 3 → heads * scale < 2 * choosers + choosers
+  sides-last h s =
+      let m : heads * scale ≤ heads * 3 = mul-le-mul {n₂ = heads} {m₂ = 3} (omega arith) s in
+      omega (arith, m)
+
+  -- the whole weighs most
+  pub sides-largest : heads ≤ choosers → sidesOf choosers scale heads ≤ 2 * scale + 2
+  unfolding sidesOf
+  sides-largest h =
+      let q : heads * scale / choosers ≤ scale = div-le-of-le-mul choosers (mul-le-mul-right scale h) in
+      go (eqb heads 0) (leb choosers heads) (eqb (heads * scale) (heads * scale / choosers * choosers)) (heads * scale / choosers) q
+    where
+      go : (a b c : Bool) (q : ℕ) → q ≤ scale → cond a 0 (cond b (2 * scale + 2) (cond c (2 * q + 1) (2 * q + 2))) ≤ 2 * scale + 2
+      go true b c q l = omega arith
+      go false true c q l = omega arith
+      go false false true q l = omega arith
+      go false false false q l = omega arith
+
+-- what heads weigh, table by table
+module _ (choosers table heads : ℕ) where
+  pub heads-one : table ≡ 1 → heads ≡ headsWeigh choosers table heads
+  unfolding headsWeigh
+  heads-one e = rw e
+
+  pub heads-two : (result : ℕ) → table ≡ 2 → result ≡ sidesOf choosers 2 heads → result ≡ headsWeigh choosers table heads
+  unfolding headsWeigh
+  heads-two result e r = rw e r
+
+  pub heads-three : (result : ℕ) → table ≡ 3 → result ≡ sidesOf choosers 3 heads → result ≡ headsWeigh choosers table heads
+  unfolding headsWeigh
+  heads-three result e r = rw e r
+
+  pub heads-other : (scale result : ℕ) → (table ≡ 1 → ⊥) → (table ≡ 2 → ⊥) → (table ≡ 3 → ⊥) → scale ≡ scaleOf table
+      → result ≡ partsOf choosers scale heads → result ≡ headsWeigh choosers table heads
+  unfolding headsWeigh
+  heads-other scale result a b c s r =
+      rw (ne-eqb _ _ a, ne-eqb _ _ b, ne-eqb _ _ c) (r ∙ ap (λ (x : ℕ). partsOf choosers x heads) s)
+
+  pub heads-largest : heads ≤ choosers → headsWeigh choosers table heads ≤ largestWeight choosers table
+  unfolding headsWeigh largestWeight scaleOf
+  heads-largest h = go (ℕ-discrete table 0) (ℕ-discrete table 1) (ℕ-discrete table 2) (ℕ-discrete table 3)
+    where
+      go : Dec (table ≡ 0) → Dec (table ≡ 1) → Dec (table ≡ 2) → Dec (table ≡ 3)
+          → cond (eqb table 1) heads (cond (eqb table 2) (sidesOf choosers 2 heads) (cond (eqb table 3) (sidesOf choosers 3 heads) (partsOf choosers (cond (eqb table 0) 1 5) heads)))
+          ≤ cond (eqb table 0) 1 (cond (eqb table 1) choosers (cond (eqb table 2) 6 (cond (eqb table 3) 8 5)))
+      go (yes e) b c d = rw e (parts-largest choosers 1 heads h (omega arith))
+      go (no a) (yes e) c d = rw e h
+      go (no a) (no b) (yes e) d = rw e (sides-largest choosers 2 heads h)
+      go (no a) (no b) (no c) (yes e) = rw e (sides-largest choosers 3 heads h)
+      go (no a) (no b) (no c) (no d) =
+          rw (ne-eqb table 0 a, ne-eqb table 1 b, ne-eqb table 2 c, ne-eqb table 3 d) (parts-largest choosers 5 heads h (omega arith))
+
+-- the largest weight, table by table
+module _ (choosers table : ℕ) where
+  pub largest-zero : table ≡ 0 → 1 ≡ largestWeight choosers table
+  unfolding largestWeight
+  largest-zero e = rw e
+
+  pub largest-one : table ≡ 1 → choosers ≡ largestWeight choosers table
+  unfolding largestWeight
+  largest-one e = rw e
+
+  pub largest-two : table ≡ 2 → 6 ≡ largestWeight choosers table
+  unfolding largestWeight
+  largest-two e = rw e
+
+  pub largest-three : table ≡ 3 → 8 ≡ largestWeight choosers table
+  unfolding largestWeight
+  largest-three e = rw e
+
+  pub largest-other : (table ≡ 0 → ⊥) → (table ≡ 1 → ⊥) → (table ≡ 2 → ⊥) → (table ≡ 3 → ⊥) → 5 ≡ largestWeight choosers table
+  unfolding largestWeight
+  largest-other a b c d = rw (ne-eqb _ _ a, ne-eqb _ _ b, ne-eqb _ _ c, ne-eqb _ _ d)
+
+-- a choice's weight as the code comes by it
+pub weight-are : (choosers table most heads word result : ℕ) → heads ≡ min word choosers → word ≡ most → result ≡ headsWeigh choosers table heads
+    → result ≡ weightOf choosers table most
+unfolding weightOf
+weight-are choosers table most heads word result h w r = r ∙ ap (λ (x : ℕ). headsWeigh choosers table x) (h ∙ ap (λ (x : ℕ). min x choosers) w)
+
+-- no choice weighs more than the table's largest weight
+pub weight-largest : (choosers table most : ℕ) → weightOf choosers table most ≤ largestWeight choosers table
+unfolding weightOf
+weight-largest choosers table most = heads-largest choosers table (min most choosers) (omega arith)
 
 -- in table 0 a choice weighs at most 1
 pub weight-one : (choosers most : ℕ) → weightOf choosers 0 most ≤ 1
-unfolding weightOf scaleOf partsOf
-weight-one choosers most = go (min most choosers) (omega arith)
-  where
-    go : (heads : ℕ) → heads ≤ choosers → cond (eqb heads 0) 0 ((heads * 1 - 1) / choosers + 1) ≤ 1
-    go zero h = omega arith
-    go (suc n) h =
-        let e : (suc n * 1 - 1) / choosers ≡ 0 = div-eq-of-lt (omega arith) in
-        rw (ne-eqb (suc n) 0 (omega arith), e) (omega arith)
+unfolding largestWeight
+weight-one choosers most = weight-largest choosers 0 most
 
 -- the row after the last choice
 pub last-none : (lack : ℕ) → lack ≡ 0 → 0 ≡ lastEntry lack

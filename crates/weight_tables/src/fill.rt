@@ -12,6 +12,13 @@ ghost use Rattle.weight_tables.specs.Tables.{Fills, Filling, written, ne
 // The entry that stands for a lack that no set reaches.
 const UNREACHED: u16 = 30000;
 
+// Room for the tables of weights.
+pub fn no_tables() -> [u16; 65_325]
+    ensures { λ r. ⌜ length r ≡ 65325 ⌝ }
+{
+    [0u16; 65_325]
+}
+
 // With no choice left a lack of 0 is filled, and no other.
 fn last_entry(lack: usize) -> u16
     ensures { λ r. ⌜ r ≡ lastEntry lack ⌝ }

@@ -1,16 +1,17 @@
--- The loop's invariant: both counts are those of the choices passed.
-use mathlib.Core.Path.{_≡_}
+-- The loop's invariant: both counts are those of the choices passed, whose domains are numbers of 64 bits.
+use mathlib.Core.Path.{_≡_, refl}
 use Prim.Native.Nat.{_≤_, _-_}
 use native.Mathlib.Omega.{arith}
 use borrow.Author.Needs.{needs}
 use Rattle.slot_rules.specs.SlotRules.{mustCount, mayCount}
-use Rattle.slot_rules.proofs.StepLaws.{must-more, may-more, must-none, may-none, must-le, may-le}
+use Rattle.slot_rules.specs.steps.Limits.{InWords}
+use Rattle.slot_rules.proofs.StepLaws.{must-more, may-more, must-none, may-none, must-le, may-le, words-none, words-more}
 use Rattle.slot_rules.proofs.limits.slot_counts.Statement.{statement}
 use Rattle.slot_rules.proofs.limits.slot_counts.Tie as tie
 
 abbrev Inv-loop : tie.InvT-loop
 Inv-loop choices slot domains must₀ may₀ choice₀ must may choice =
-    (choice ≤ choices) × (must ≡ mustCount choice domains slot) × (may ≡ mayCount choice domains slot)
+    (choice ≤ choices) × (must ≡ mustCount choice domains slot) × (may ≡ mayCount choice domains slot) × InWords choice domains
 
 abbrev μ-loop : tie.MeasureT-loop
 μ-loop choices slot domains must₀ may₀ choice₀ must may choice =
@@ -18,7 +19,7 @@ abbrev μ-loop : tie.MeasureT-loop
 
 loop-holds : tie.Need-loop-holds Inv-loop μ-loop
 loop-holds c =
-    (search needs, must-none _ _, may-none _ _)
+    (search needs, must-none _ _, may-none _ _, words-none _)
 
 mul-domain : tie.Need-mul-domain Inv-loop μ-loop
 mul-domain c =
@@ -40,17 +41,13 @@ add-must : tie.Need-add-must Inv-loop μ-loop
 add-must c =
     omega (arith, must-le (c .before .before .before .before .loop .choice) (c .before .before .before .before .before .args .domains .now) (c .before .before .before .before .before .args .slot), c .one-if .ensures .1, c .before .before .before .before .loop .inv .1)
 
-member-requires : tie.Need-member-requires Inv-loop μ-loop
-member-requires c κs =
-    tt
-
-one-if-requires-2 : tie.Need-one-if-requires-2 Inv-loop μ-loop
-one-if-requires-2 c κs =
+one-if-in-requires : tie.Need-one-if-in-requires Inv-loop μ-loop
+one-if-in-requires c κs =
     tt
 
 add-may : tie.Need-add-may Inv-loop μ-loop
 add-may c =
-    omega (arith, may-le (c .before .before .before .before .before .before .loop .choice) (c .before .before .before .before .before .before .before .args .domains .now) (c .before .before .before .before .before .before .before .args .slot), c .one-if2 .ensures .1, c .before .before .before .before .before .before .loop .inv .2)
+    omega (arith, may-le (c .before .before .before .before .before .loop .choice) (c .before .before .before .before .before .before .args .domains .now) (c .before .before .before .before .before .before .args .slot), c .one-if-in .ensures .1, c .before .before .before .before .before .loop .inv .2)
 
 add-choice : tie.Need-add-choice Inv-loop μ-loop
 add-choice c =
@@ -62,12 +59,13 @@ loop-less c =
 
 loop-again : tie.Need-loop-again Inv-loop μ-loop
 loop-again c =
-    (search needs, must-more _ _ _ _ _ _ (c .before .before .before .before .before .before .loop .inv .1) (c .before .before .one-if .ensures .0) (c .before .before .before .is-only .ensures), may-more _ _ _ _ _ _ (c .before .before .before .before .before .before .loop .inv .2) (c .one-if2 .ensures .0) (c .before .member .ensures))
+    let i = c .before .before .before .before .before .loop .inv in
+    (search needs, must-more _ _ _ _ _ _ (i .1) (c .before .one-if .ensures .0) (c .before .before .is-only .ensures), may-more _ _ _ _ _ _ (i .2) (c .one-if-in .ensures .0) refl, words-more _ _ (i .3) (c .one-if-in .ensures .2))
 
 returns : tie.Need-returns Inv-loop μ-loop
 returns c =
     let e : c .before .loop .choice ≡ c .before .before .args .choices = omega (arith, c .loop-test .left, c .before .loop .inv .0) in
-    (rw e at (c .before .loop .inv .1), rw e at (c .before .loop .inv .2))
+    (rw e at (c .before .loop .inv .1), rw e at (c .before .loop .inv .2), rw e at (c .before .loop .inv .3))
 
 pub slot-counts-spec : {M : Type 1} → statement M
 slot-counts-spec =
@@ -81,8 +79,7 @@ slot-counts-spec =
     is-only-requires
     one-if-requires
     add-must
-    member-requires
-    one-if-requires-2
+    one-if-in-requires
     add-may
     add-choice
     loop-less

@@ -27,12 +27,12 @@ abbrev μ-loop : tie.MeasureT-loop
 loop-holds : tie.Need-loop-holds Inv-loop μ-loop
 unfolding tablesBelow
 loop-holds c =
-    ((omega arith, c .before .pre .1 .1), refl)
+    ((omega arith, c .before .pre .1 .1 .0), refl)
 
 -- src/rule.rt:221:9
 narrow-once-requires : tie.Need-narrow-once-requires Inv-loop μ-loop
 narrow-once-requires c κs =
-    (c .before .before .before .before .pre .0, (c .before .before .before .before .pre .1 .0, c .before .before .loop .inv .0 .1))
+    (c .before .before .before .before .pre .0, (c .before .before .before .before .pre .1 .0, (c .before .before .loop .inv .0 .1, c .before .before .before .before .pre .1 .1 .1)))
 
 -- src/rule.rt:222:9
 add-table : tie.Need-add-table Inv-loop μ-loop

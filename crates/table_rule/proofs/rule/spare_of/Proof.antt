@@ -1,5 +1,6 @@
 -- The loop's invariant: what the free choices passed weigh.
 use Rattle.table_rule.specs.Rule.{spareOf}
+use Rattle.table_rule.proofs.FigureLaws.{first-within}
 use Rattle.table_rule.proofs.RuleLaws.{spare-start, spare-step}
 use mathlib.Core.Path.{_≡_, refl, sym, _∙_}
 use Prim.Native.Nat.{_+_, _-_, _*_, _≤_}
@@ -14,17 +15,17 @@ use Rattle.choice_sets.proofs.set.member.Reads as member-reads
 use Rattle.table_rule.proofs.rule.free_weight.Reads as free-weight-reads
 
 abbrev Inv-loop : tie.InvT-loop
-Inv-loop choices choosers maxs table free spare₀ choice₀ spare choice =
+Inv-loop choices choosers maxs table free from spare₀ choice₀ spare choice =
     ((choice ≤ choices) × (spare ≤ choice * 327675)) × (spare ≡ spareOf choice choosers maxs table free)
 
 abbrev μ-loop : tie.MeasureT-loop
-μ-loop choices choosers maxs table free spare₀ choice₀ spare choice =
+μ-loop choices choosers maxs table free from spare₀ choice₀ spare choice =
     choices - choice
 
 -- src/rule.rt:61:5
 loop-holds : tie.Need-loop-holds Inv-loop μ-loop
 loop-holds c =
-    ((omega arith, omega arith), spare-start _ _ _ _)
+    ((first-within _ _ _ (c .before .pre .1 .1), omega arith), spare-start _ _ _ _ _ _ (c .before .pre .1 .1))
 
 -- src/rule.rt:62:30
 member-requires : tie.Need-member-requires Inv-loop μ-loop

@@ -1,0 +1,2 @@
+pub mod CountRule
+pub mod steps

@@ -1,0 +1,228 @@
+-- The places with which the choices after are enough: each way through the code, and that the place of a feasible plan stays.
+use mathlib.Core.Path.{_≡_, refl, sym, _∙_, ap}
+use mathlib.Core.Bool.{Bool, true, false, _&&_, cond}
+use mathlib.Core.List.{List}
+use Prim.Native.Nat.{ℕ, _+_, _-_, _≤_, _<_}
+use native.Mathlib.Omega.{arith}
+use borrow.Author.Tests.{lt-ltb, le-ltb, le-leb, lt-leb, leb-true, leb-false, eq-eqb, ne-eqb}
+use lib.Dec.{eqb, ltb, leb}
+use lib.ListN.{length, getD, set, take, replicate, length-replicate}
+use Rattle.lists.specs.Below.{sumBelow}
+use Rattle.lists.proofs.Below.{and-left, and-both, sum-more}
+use Rattle.lists.proofs.SumBelow.{sum-ext}
+use Rattle.constraint.specs.declared.check.Counts.{Counts}
+use Rattle.choice_sets.specs.Sets.{has, setOf}
+use Rattle.choice_sets.proofs.SetLaws.{has-set}
+use Rattle.scheduling.specs.Day.{Day}
+use Rattle.scheduling.specs.Plan.{slotOf, standsIn, sumIn}
+use Rattle.scheduling.specs.Feasible.{feasible}
+use Rattle.scheduling.proofs.Meaning.{Feasible, Placed, feasible-means}
+use Rattle.plan_rows.proofs.PlanLaws.{stands-omitted, stands-by}
+use Rattle.weight_tables.specs.Tables.{Filled, entryAt, written}
+use Rattle.weight_tables.proofs.TableLaws.{written-more, written-in}
+use Rattle.weight_tables.proofs.EnoughLaws.{enough-need, enough-filled, enough-safe, start-sum}
+use Rattle.place_sets.specs.Domains.{placeNumber}
+use Rattle.place_sets.proofs.DomainLaws.{number-in}
+use Rattle.table_rule.specs.Rule.{needOf, slotKept}
+use Rattle.table_rule.specs.Enough.{lackAt, lacksAt, enoughWith, enoughAsked, enoughPlaces}
+use Rattle.table_rule.proofs.FillLaws.{change-one}
+
+-- the lacks, one more
+pub lack-step : (choosers : ℕ) (fills : List ℕ) (slot lack : ℕ) (before lacks : List ℕ) → lacks ≡ written slot 0 (lackAt choosers fills) before
+    → lack ≡ choosers - getD fills slot 0 → set lacks slot lack ≡ written (slot + 1) 0 (lackAt choosers fills) before
+unfolding lackAt
+lack-step choosers fills slot lack before lacks l k =
+    let f : ℕ → ℕ = lackAt choosers fills in
+    let z : slot ≡ 0 + slot = omega arith in
+    ap (λ (x : List ℕ). set x slot lack) l ∙ ap (λ (x : ℕ). set (written slot 0 f before) slot x) k
+    ∙ ap (λ (x : ℕ). set (written slot 0 f before) x (f slot)) z ∙ written-more 0 f before slot
+
+module _ (entry : ℕ → ℕ → ℕ → ℕ) where
+  -- all places, or the slots that stay
+  module _ (slots from : ℕ) (lacks : List ℕ) (most spare domain need : ℕ) where
+    pub with-all : need ≡ needOf entry slots 0 from lacks → need ≤ spare → domain ≡ enoughWith entry slots from lacks most spare domain
+    unfolding enoughWith
+    with-all n h = rw (sym n, le-leb _ _ h)
+
+    pub with-some : (wide result : ℕ) → need ≡ needOf entry slots 0 from lacks → spare < need → wide ≡ most
+        → result ≡ setOf slots (slotKept entry 0 from lacks 0 wide need spare domain) → result ≡ enoughWith entry slots from lacks most spare domain
+    unfolding enoughWith
+    with-some wide result n h w r =
+        rw (sym n, lt-leb _ _ h) (r ∙ ap (λ (x : ℕ). setOf slots (slotKept entry 0 from lacks 0 x need spare domain)) w)
+
+  -- the call
+  module _ (counts : Counts) (choice most : ℕ) (fills : List ℕ) (domain : ℕ) where
+    pub places-many-slots : 24 < counts .slots → domain ≡ enoughPlaces entry counts choice most fills domain
+    unfolding enoughPlaces enoughAsked
+    places-many-slots s = rw (lt-leb _ _ s)
+
+    pub places-many-choosers : counts .slots ≤ 24 → 200 < counts .choosers → domain ≡ enoughPlaces entry counts choice most fills domain
+    unfolding enoughPlaces enoughAsked
+    places-many-choosers s h = rw (le-leb _ _ s, lt-leb _ _ h)
+
+    pub places-many-choices : counts .slots ≤ 24 → counts .choosers ≤ 200 → 64 < counts .choices → domain ≡ enoughPlaces entry counts choice most fills domain
+    unfolding enoughPlaces enoughAsked
+    places-many-choices s h c = rw (le-leb _ _ s, le-leb _ _ h, lt-leb _ _ c)
+
+    pub places-past : counts .slots ≤ 24 → counts .choosers ≤ 200 → counts .choices ≤ 64 → counts .choices ≤ choice → domain ≡ enoughPlaces entry counts choice most fills domain
+    unfolding enoughPlaces enoughAsked
+    places-past s h c p = rw (le-leb _ _ s, le-leb _ _ h, le-leb _ _ c, le-ltb _ _ p)
+
+    pub places-asked : (none lacks : List ℕ) (result : ℕ) → counts .slots ≤ 24 → counts .choosers ≤ 200 → counts .choices ≤ 64 → choice < counts .choices
+        → none ≡ replicate 24 0 → lacks ≡ written (counts .slots) 0 (lackAt (counts .choosers) fills) none
+        → result ≡ enoughWith entry (counts .slots) (choice + 1) lacks most (counts .choices - (choice + 1)) domain
+        → result ≡ enoughPlaces entry counts choice most fills domain
+    unfolding enoughPlaces enoughAsked lacksAt
+    places-asked none lacks result s h c p n l r =
+        rw (le-leb _ _ s, le-leb _ _ h, le-leb _ _ c, lt-ltb _ _ p)
+        (r ∙ ap (λ (x : List ℕ). enoughWith entry (counts .slots) (choice + 1) x most (counts .choices - (choice + 1)) domain)
+        (l ∙ ap (λ (x : List ℕ). written (counts .slots) 0 (lackAt (counts .choosers) fills) x) n))
+
+-- what is written for a slot stands at its place
+written-at : (slots : ℕ) (f : ℕ → ℕ) → slots ≤ 24 → (slot : ℕ) → slot < slots → getD (written slots 0 f (replicate 24 0)) slot 0 ≡ f slot
+written-at slots f few slot hs =
+    let z : slot ≡ 0 + slot = omega arith in
+    let n : length (replicate {A = ℕ} 24 0) ≡ 24 = length-replicate {A = ℕ} 24 0 in
+    ap (λ (x : ℕ). getD (written slots 0 f (replicate 24 0)) x 0) z ∙ written-in 0 f (replicate 24 0) slots slot (omega (arith, n)) hs
+
+pub lack-at : (choosers slots : ℕ) (fills : List ℕ) → slots ≤ 24 → (slot : ℕ) → slot < slots → getD (lacksAt choosers slots fills) slot 0 ≡ choosers - getD fills slot 0
+unfolding lacksAt lackAt
+lack-at choosers slots fills few slot hs = written-at slots (lackAt choosers fills) few slot hs
+
+-- a start's sums with one choice more
+sum-next : (amounts plan : List ℕ) (choice slot : ℕ) → choice < length plan
+    → sumIn amounts (take (choice + 1) plan) slot ≡ sumIn amounts (take choice plan) slot + cond (standsIn plan choice slot) (getD amounts choice 0) 0
+sum-next amounts plan choice slot h =
+    let m : ℕ → ℕ = λ k. cond (standsIn plan k slot) (getD amounts k 0) 0 in
+    let a : sumIn amounts (take (choice + 1) plan) slot ≡ sumBelow (choice + 1) m = start-sum amounts plan (choice + 1) slot (omega arith) in
+    let b : sumIn amounts (take choice plan) slot ≡ sumBelow choice m = start-sum amounts plan choice slot (omega arith) in
+    a ∙ sum-more m choice ∙ ap (λ (x : ℕ). x + m choice) (sym b)
+
+module _ (day : Day) (plan tables : List ℕ) (feasibly : feasible day plan ≡ true) (len : length plan ≡ day .counts .choices)
+    (filled : Filled (day .counts) (day .maxs) tables) (few : day .counts .choices ≤ 64) (held : day .counts .choosers ≤ 200)
+    (choice : ℕ) (fills : List ℕ) (domain : ℕ) (inside : choice < day .counts .choices)
+    (sums : (slot : ℕ) → getD fills slot 0 ≡ sumIn (day .maxs) (take choice plan) slot) where
+  abbrev most : ℕ
+  most = getD (day .maxs) choice 0
+
+  abbrev from : ℕ
+  from = choice + 1
+
+  abbrev spare : ℕ
+  spare = day .counts .choices - (choice + 1)
+
+  abbrev lacks : List ℕ
+  lacks = lacksAt (day .counts .choosers) (day .counts .slots) fills
+
+  abbrev need : ℕ
+  need = needOf (entryAt tables) (day .counts .slots) 0 (choice + 1) (lacksAt (day .counts .choosers) (day .counts .slots) fills)
+
+  -- what a slot's lack weighs once the choice stands at its place
+  abbrev after : ℕ → ℕ
+  after slot = entryAt tables 0 (choice + 1) (getD (lacksAt (day .counts .choosers) (day .counts .slots) fills) slot 0 - cond (standsIn plan choice slot) (getD (day .maxs) choice 0) 0)
+
+  module _ (thin : day .counts .slots ≤ 24) where
+    -- the lacks of the start after the choice weigh no more than the choices after it
+    after-fits : sumBelow (day .counts .slots) after ≤ spare
+    after-fits =
+        let slots : ℕ = day .counts .slots in
+        let choosers : ℕ = day .counts .choosers in
+        let sum : ℕ → ℕ = λ slot. sumIn (day .maxs) (take (choice + 1) plan) slot in
+        let next : List ℕ = written slots 0 sum (replicate 24 0) in
+        let g : ℕ → ℕ = λ slot. entryAt tables 0 from (choosers - getD next slot 0) in
+        let safe : leb (sumBelow slots g) spare ≡ true =
+        enough-need (entryAt tables) slots choosers (day .counts .choices) from next (sumBelow slots g) thin held few (omega arith) refl
+        ∙ enough-filled (day .counts) (day .maxs) tables filled few held slots from next (omega arith)
+        ∙ enough-safe day plan feasibly len from next (omega arith) (λ slot hs. written-at slots sum thin slot hs) in
+        let same : sumBelow slots after ≡ sumBelow slots g =
+        sum-ext slots after g λ slot hs. ap (λ (x : ℕ). entryAt tables 0 from x) (lacks-after slot hs (written-at slots sum thin slot hs)) in
+        omega (arith, leb-true (sumBelow slots g) spare safe, same)
+      where
+        lacks-after : (slot : ℕ) → slot < day .counts .slots → {x : ℕ} → x ≡ sumIn (day .maxs) (take (choice + 1) plan) slot
+            → getD lacks slot 0 - cond (standsIn plan choice slot) (getD (day .maxs) choice 0) 0 ≡ day .counts .choosers - x
+        lacks-after slot hs {x} e =
+            let part : ℕ = cond (standsIn plan choice slot) (getD (day .maxs) choice 0) 0 in
+            let a : getD lacks slot 0 ≡ day .counts .choosers - getD fills slot 0 = lack-at (day .counts .choosers) (day .counts .slots) fills thin slot hs in
+            let b : sumIn (day .maxs) (take (choice + 1) plan) slot ≡ sumIn (day .maxs) (take choice plan) slot + part =
+            sum-next (day .maxs) plan choice slot (omega (arith, len)) in
+            let c : getD fills slot 0 ≡ sumIn (day .maxs) (take choice plan) slot = sums slot in
+            omega (arith, a, b, c, e)
+
+    -- a slot's lack where the choice doesn't stand
+    after-same : (slot : ℕ) → standsIn plan choice slot ≡ false → after slot ≡ entryAt tables 0 from (getD lacks slot 0)
+    after-same slot t =
+        ap (λ (b : Bool). entryAt tables 0 from (getD lacks slot 0 - cond b (getD (day .maxs) choice 0) 0)) t
+        ∙ ap (λ (x : ℕ). entryAt tables 0 from x) (minus-none (getD lacks slot 0))
+      where
+        minus-none : (x : ℕ) → x - 0 ≡ x
+        minus-none x = omega arith
+
+    -- an omitted choice is not needed
+    omitted-enough : slotOf plan choice ≡ 255 → need ≤ spare
+    unfolding needOf
+    omitted-enough o =
+        let same : sumBelow (day .counts .slots) after ≡ sumBelow (day .counts .slots) (λ slot. entryAt tables 0 from (getD lacks slot 0)) =
+        sum-ext (day .counts .slots) after (λ slot. entryAt tables 0 from (getD lacks slot 0)) λ slot hs. after-same slot (stands-omitted plan choice slot o) in
+        omega (arith, same, after-fits)
+
+    -- a choice in a slot leaves enough for the others
+    slot-enough : (p : ℕ) → p < day .counts .slots → slotOf plan choice ≡ p
+        → 0 + entryAt tables 0 from (getD lacks p 0 - most) + need ≤ spare + entryAt tables 0 from (getD lacks p 0)
+    unfolding needOf
+    slot-enough p hp e =
+        let g : ℕ → ℕ = λ slot. entryAt tables 0 from (getD lacks slot 0) in
+        let c : sumBelow (day .counts .slots) after + g p ≡ sumBelow (day .counts .slots) g + after p = change-one (day .counts .slots) after g p hp other in
+        let h : after p ≡ entryAt tables 0 from (getD lacks p 0 - most) =
+        ap (λ (b : Bool). entryAt tables 0 from (getD lacks p 0 - cond b (getD (day .maxs) choice 0) 0)) (by p ∙ eq-eqb (slotOf plan choice) p e) in
+        omega (arith, c, h, after-fits)
+      where
+        by : (slot : ℕ) → standsIn plan choice slot ≡ eqb (slotOf plan choice) slot
+        by slot = stands-by plan choice slot (λ z. absurd (omega (arith, z, e, hp, thin)))
+
+        other : (slot : ℕ) → slot < day .counts .slots → (slot ≡ p → ⊥) → after slot ≡ entryAt tables 0 from (getD lacks slot 0)
+        other slot hs q = after-same slot (by slot ∙ ne-eqb (slotOf plan choice) slot (λ z. q (sym z ∙ e)))
+
+    -- so the plan's place stays
+    with-keeps : has domain (placeNumber (day .counts .slots) (slotOf plan choice)) ≡ true
+        → has (enoughWith (entryAt tables) (day .counts .slots) from lacks most spare domain) (placeNumber (day .counts .slots) (slotOf plan choice)) ≡ true
+    unfolding enoughWith slotKept
+    with-keeps d = go (leb need spare) refl
+      where
+        kept : spare < need → Placed (day .counts .slots) (day .optional) plan choice
+            → has (setOf (day .counts .slots) (slotKept (entryAt tables) 0 from lacks 0 most need spare domain)) (placeNumber (day .counts .slots) (slotOf plan choice)) ≡ true
+        kept o (Placed.left-out e x) = absurd (omega (arith, o, omitted-enough e))
+        kept o (Placed.scheduled h) =
+            let p : ℕ = slotOf plan choice in
+            let e : placeNumber (day .counts .slots) p ≡ p = number-in (day .counts .slots) p h in
+            let dp : has domain p ≡ true = ap (λ (x : ℕ). has domain x) (sym e) ∙ d in
+            rw e
+            (has-set (day .counts .slots) (slotKept (entryAt tables) 0 from lacks 0 most need spare domain) p h
+            ∙ and-both (has domain p) (leb (0 + entryAt tables 0 from (getD lacks p 0 - most) + need) (spare + entryAt tables 0 from (getD lacks p 0))) dp
+            (le-leb _ _ (slot-enough p h refl)))
+
+        go : (b : Bool) → leb need spare ≡ b
+            → has (cond b domain (setOf (day .counts .slots) (slotKept (entryAt tables) 0 from lacks 0 most need spare domain))) (placeNumber (day .counts .slots) (slotOf plan choice)) ≡ true
+        go true u = d
+        go false u = kept (leb-false need spare u) ((feasible-means day plan feasibly) .places choice (omega (arith, len)))
+
+-- what is asked is of a day of at most 24 slots
+asked-slots : (counts : Counts) (choice : ℕ) → enoughAsked counts choice ≡ true → counts .slots ≤ 24
+unfolding enoughAsked
+asked-slots counts choice t =
+    leb-true _ _ (and-left (leb (counts .slots) 24) (leb (counts .choosers) 200 && (leb (counts .choices) 64 && ltb choice (counts .choices))) t)
+
+-- a feasible plan's place stays, where the fills are those of the choices before it
+pub enough-keeps : (day : Day) (plan tables : List ℕ) → feasible day plan ≡ true → length plan ≡ day .counts .choices → Filled (day .counts) (day .maxs) tables
+    → day .counts .choices ≤ 64 → day .counts .choosers ≤ 200 → (choice : ℕ) (fills : List ℕ) (domain : ℕ) → choice < day .counts .choices
+    → ((slot : ℕ) → getD fills slot 0 ≡ sumIn (day .maxs) (take choice plan) slot)
+    → has domain (placeNumber (day .counts .slots) (slotOf plan choice)) ≡ true
+    → has (enoughPlaces (entryAt tables) (day .counts) choice (getD (day .maxs) choice 0) fills domain) (placeNumber (day .counts .slots) (slotOf plan choice)) ≡ true
+unfolding enoughPlaces
+enough-keeps day plan tables f n filled few held choice fills domain inside sums d = go (enoughAsked (day .counts) choice) refl
+  where
+    go : (b : Bool) → enoughAsked (day .counts) choice ≡ b
+        → has (cond b
+        (enoughWith (entryAt tables) (day .counts .slots) (choice + 1) (lacksAt (day .counts .choosers) (day .counts .slots) fills) (getD (day .maxs) choice 0) (day .counts .choices - (choice + 1)) domain)
+        domain) (placeNumber (day .counts .slots) (slotOf plan choice)) ≡ true
+    go true t = with-keeps day plan tables f n filled few held choice fills domain inside sums (asked-slots (day .counts) choice t) d
+    go false t = d
