@@ -1,11 +1,11 @@
--- A feasible plan stays within what the look ahead leaves, and its starts are worth going on from.
+-- A feasible plan stays within what the walk sees at each of its starts.
 use mathlib.Core.Path.{_≡_, refl, sym, ap, _∙_}
 use mathlib.Core.Bool.{Bool, true, false, _&&_, not, cond, false≢true}
 use mathlib.Core.List.{List, [], _∷_}
 use Prim.Native.Nat.{ℕ, zero, suc, _+_, _-_, _≤_, _<_}
 use native.Mathlib.Omega.{arith}
-use borrow.Author.Tests.{eq-eqb, ne-eqb}
-use lib.Dec.{eqb, leb}
+use borrow.Author.Tests.{lt-ltb, eq-eqb, ne-eqb}
+use lib.Dec.{eqb, ltb, leb}
 use lib.ListN.{length, getD, set, take, replicate, length-set, length-replicate}
 use lib.Seq.{getD-take}
 use Rattle.lists.specs.Below.{allBelow}
@@ -20,8 +20,7 @@ use Rattle.choice_sets.specs.Sets.{has}
 use Rattle.choice_sets.proofs.SetLaws.{has-past}
 use Rattle.place_sets.specs.Domains.{placeNumber, onlyPlace, Within}
 use Rattle.place_sets.proofs.DomainLaws.{number-le, only-has, each-length, within-at, set-within}
-use Rattle.weight_tables.specs.Tables.{Filled, tablesFit, entryAt, enoughLeft}
-use Rattle.weight_tables.proofs.EnoughLaws.{enough-filled, enough-safe}
+use Rattle.weight_tables.specs.Tables.{Filled, tablesFit, entryAt}
 use Rattle.slot_rules.specs.SlotRules.{slotsRule, limitRule}
 use Rattle.slot_rules.proofs.SlotLaws.{slots-length, slots-within}
 use Rattle.slot_rules.proofs.LimitLaws.{limit-length}
@@ -29,9 +28,13 @@ use Rattle.row_rules.specs.RowRules.{rowRule}
 use Rattle.row_rules.specs.RowsRule.{anyRule, rowsRule}
 use Rattle.row_rules.proofs.RowsLaws.{row-length, rows-within}
 use Rattle.table_rule.specs.Figures.{freeOf, firstIn, lacksOf}
+use Rattle.table_rule.specs.Enough.{enoughPlaces}
 use Rattle.table_rule.specs.Rule.{tableRule, tablesBelow, fiveTables, tablesRule}
 use Rattle.table_rule.proofs.WithinLaws.{tables-within}
-use Rattle.look_ahead.specs.Look.{decided, alive, aliveOr, lookedAhead, isWorth}
+use Rattle.table_rule.proofs.EnoughPlaces.{enough-keeps}
+use Rattle.count_rule.specs.CountRule.{countsRule}
+use Rattle.count_rule.proofs.CountLaws.{counts-length, counts-within}
+use Rattle.look_ahead.specs.Look.{decided, alive, aliveOr, weighed, lookedAhead, nearEnd, enoughAt, seenAt}
 
 -- ---- the last choice stands where the plan has it
 
@@ -121,6 +124,21 @@ rows-length counts [] domains = refl
 rows-length counts (number ∷ rows) domains =
     rows-length counts rows (anyRule counts (rowOf number) domains) ∙ any-length counts (rowOf number) domains
 
+-- ---- tables and counts
+
+module _ (counts : Counts) (maxs rows tables plan : List ℕ) (choice : ℕ) (domains : List ℕ) where
+  weighed-by : weighed counts maxs rows tables (take choice plan) choice domains ≡ weighed counts maxs rows tables plan choice domains
+  unfolding weighed
+  weighed-by =
+      ap (λ (l : List ℕ). countsRule (entryAt tables) counts maxs rows (tablesRule (entryAt tables) counts maxs l)) (sym (decided-start (counts .slots) plan choice domains))
+
+  weighed-length : length (weighed counts maxs rows tables plan choice domains) ≡ length domains
+  unfolding weighed
+  weighed-length =
+      counts-length (entryAt tables) counts maxs rows (tablesRule (entryAt tables) counts maxs (decided (counts .slots) plan choice domains))
+      ∙ tables-length (entryAt tables) counts maxs (decided (counts .slots) plan choice domains)
+      ∙ decided-length (counts .slots) plan choice domains
+
 -- ---- the look ahead
 
 module _ (counts : Counts) (mins maxs rows tables plan : List ℕ) (choice : ℕ) (domains : List ℕ) where
@@ -129,26 +147,51 @@ module _ (counts : Counts) (mins maxs rows tables plan : List ℕ) (choice : ℕ
   unfolding lookedAhead
   looked-start h =
       ap
-      (λ (l : List ℕ). cond (alive (counts .choices) (tablesRule (entryAt tables) counts maxs l)) (aliveOr (counts .choices) (rowsRule counts rows (slotsRule counts mins maxs (tablesRule (entryAt tables) counts maxs l))))
-      (replicate 64 0))
-      (sym (decided-start (counts .slots) plan choice domains))
+      (λ (w : List ℕ). cond (alive (counts .choices) w) (aliveOr (counts .choices) (rowsRule counts rows (slotsRule counts mins maxs w))) (replicate 64 0))
+      weighed-start
+    where
+      weighed-start : weighed counts maxs rows tables (take choice plan) choice domains ≡ weighed counts maxs rows tables plan choice domains
+      weighed-start = weighed-by counts maxs rows tables plan choice domains
 
   pub looked-length : length domains ≡ 64 → length (lookedAhead counts mins maxs rows tables plan choice domains) ≡ 64
   unfolding lookedAhead
-  looked-length l = go (alive (counts .choices) weighed)
+  looked-length l = go (alive (counts .choices) (weighed counts maxs rows tables plan choice domains))
     where
-      weighed : List ℕ
-      weighed = tablesRule (entryAt tables) counts maxs (decided (counts .slots) plan choice domains)
-
-      go : (b : Bool) → length (cond b (aliveOr (counts .choices) (rowsRule counts rows (slotsRule counts mins maxs weighed))) (replicate 64 0)) ≡ 64
+      go : (b : Bool)
+          → length (cond b (aliveOr (counts .choices) (rowsRule counts rows (slotsRule counts mins maxs (weighed counts maxs rows tables plan choice domains)))) (replicate 64 0)) ≡ 64
       go true =
-          alive-length (counts .choices) (rowsRule counts rows (slotsRule counts mins maxs weighed))
-          (rows-length counts rows (slotsRule counts mins maxs weighed)
-          ∙ slots-length counts mins maxs weighed
-          ∙ tables-length (entryAt tables) counts maxs (decided (counts .slots) plan choice domains)
-          ∙ decided-length (counts .slots) plan choice domains
+          alive-length (counts .choices) (rowsRule counts rows (slotsRule counts mins maxs (weighed counts maxs rows tables plan choice domains)))
+          (rows-length counts rows (slotsRule counts mins maxs (weighed counts maxs rows tables plan choice domains))
+          ∙ slots-length counts mins maxs (weighed counts maxs rows tables plan choice domains)
+          ∙ weighed-length counts maxs rows tables plan choice domains
           ∙ l)
       go false = length-replicate {A = ℕ} 64 0
+
+-- ---- as the walk sees it
+
+enough-length : (counts : Counts) (maxs tables : List ℕ) (choice : ℕ) (fills domains : List ℕ) → length (enoughAt counts maxs tables choice fills domains) ≡ length domains
+unfolding enoughAt
+enough-length counts maxs tables choice fills domains = go (ltb choice 64)
+  where
+    go : (b : Bool) → length (cond b (set domains choice (enoughPlaces (entryAt tables) counts choice (getD maxs choice 0) fills (getD domains choice 0))) domains) ≡ length domains
+    go true = length-set domains choice (enoughPlaces (entryAt tables) counts choice (getD maxs choice 0) fills (getD domains choice 0))
+    go false = refl
+
+module _ (counts : Counts) (mins maxs rows tables plan : List ℕ) (choice : ℕ) (fills domains : List ℕ) where
+  -- of a plan the places before the choice matter alone
+  pub seen-start : choice ≤ length plan → seenAt counts mins maxs rows tables (take choice plan) choice fills domains ≡ seenAt counts mins maxs rows tables plan choice fills domains
+  unfolding seenAt
+  seen-start h =
+      ap (λ (l : List ℕ). enoughAt counts maxs tables choice fills (cond (nearEnd (counts .choices) choice) domains l))
+      (looked-start counts mins maxs rows tables plan choice domains h)
+
+  pub seen-length : length domains ≡ 64 → length (seenAt counts mins maxs rows tables plan choice fills domains) ≡ 64
+  unfolding seenAt
+  seen-length l = enough-length counts maxs tables choice fills (cond (nearEnd (counts .choices) choice) domains (lookedAhead counts mins maxs rows tables plan choice domains)) ∙ go (nearEnd (counts .choices) choice)
+    where
+      go : (b : Bool) → length (cond b domains (lookedAhead counts mins maxs rows tables plan choice domains)) ≡ 64
+      go true = l
+      go false = looked-length counts mins maxs rows tables plan choice domains l
 
 -- what the laws of the look ahead ask of a day
 pub record Looks (day : Day) (tables : List ℕ) : Type 0 where
@@ -161,29 +204,54 @@ pub record Looks (day : Day) (tables : List ℕ) : Type 0 where
 
 module _ (day : Day) (tables : List ℕ) (looks : Looks day tables) (plan : List ℕ) (f : feasible day plan ≡ true) (size : length plan ≡ day .counts .choices) where
   -- a feasible plan stays within what is left: each rule keeps it
+  weighed-within : (choice : ℕ) (domains : List ℕ) → choice ≤ day .counts .choices → length domains ≡ 64 → Within (day .counts .slots) plan domains
+      → Within (day .counts .slots) plan (weighed (day .counts) (day .maxs) (day .rows) tables plan choice domains)
+  unfolding weighed
+  weighed-within choice domains h l w =
+      let last = decided (day .counts .slots) plan choice domains in
+      let by-tables = tablesRule (entryAt tables) (day .counts) (day .maxs) last in
+      let wl : Within (day .counts .slots) plan last =
+      decided-within (day .counts .slots) plan choice domains (looks .few-slots) (omega (arith, h, l, looks .few-choices)) w in
+      let ll : length last ≡ 64 = decided-length (day .counts .slots) plan choice domains ∙ l in
+      let lt : length by-tables ≡ 64 = tables-length (entryAt tables) (day .counts) (day .maxs) last ∙ ll in
+      let wt : Within (day .counts .slots) plan by-tables = tables-within day plan tables last f size (looks .filled) ll wl in
+      counts-within day plan tables by-tables f size (looks .filled) lt wt
+
   pub looked-within : (choice : ℕ) (domains : List ℕ) → choice ≤ day .counts .choices → length domains ≡ 64 → Within (day .counts .slots) plan domains
       → Within (day .counts .slots) plan (lookedAhead (day .counts) (day .mins) (day .maxs) (day .rows) tables (take choice plan) choice domains)
   unfolding lookedAhead
   looked-within choice domains h l w =
-      let last = decided (day .counts .slots) plan choice domains in
-      let weighed = tablesRule (entryAt tables) (day .counts) (day .maxs) last in
-      let summed = slotsRule (day .counts) (day .mins) (day .maxs) weighed in
-      let wl : Within (day .counts .slots) plan last =
-      decided-within (day .counts .slots) plan choice domains (looks .few-slots) (omega (arith, h, l, looks .few-choices)) w in
-      let ll : length last ≡ 64 = decided-length (day .counts .slots) plan choice domains ∙ l in
-      let lt : length weighed ≡ 64 = tables-length (entryAt tables) (day .counts) (day .maxs) last ∙ ll in
-      let ls : length summed ≡ 64 = slots-length (day .counts) (day .mins) (day .maxs) weighed ∙ lt in
-      let wt : Within (day .counts .slots) plan weighed = tables-within day plan tables last f size (looks .filled) ll wl in
-      let ws : Within (day .counts .slots) plan summed = slots-within day plan weighed f size lt wt in
+      let by-counts = weighed (day .counts) (day .maxs) (day .rows) tables plan choice domains in
+      let summed = slotsRule (day .counts) (day .mins) (day .maxs) by-counts in
+      let lc : length by-counts ≡ 64 = weighed-length (day .counts) (day .maxs) (day .rows) tables plan choice domains ∙ l in
+      let ls : length summed ≡ 64 = slots-length (day .counts) (day .mins) (day .maxs) by-counts ∙ lc in
+      let wc : Within (day .counts .slots) plan by-counts = weighed-within choice domains h l w in
+      let ws : Within (day .counts .slots) plan summed = slots-within day plan by-counts f size lc wc in
       rw (looked-start (day .counts) (day .mins) (day .maxs) (day .rows) tables plan choice domains (omega (arith, h, size)))
-      (rw (within-alive (day .counts .slots) plan (day .counts .choices) weighed size wt)
+      (rw (within-alive (day .counts .slots) plan (day .counts .choices) by-counts size wc)
       (alive-within (day .counts .slots) plan (day .counts .choices) (rowsRule (day .counts) (day .rows) summed) size
       (rows-within day plan summed f size (looks .few-slots) ls ws)))
 
-  -- and its starts are worth going on from
-  pub worth-safe : (choice : ℕ) (fills : List ℕ) → choice ≤ day .counts .choices
-      → ((slot : ℕ) → getD fills slot 0 ≡ sumIn (day .maxs) (take choice plan) slot) → isWorth (day .counts) tables choice fills ≡ true
-  unfolding isWorth
-  worth-safe choice fills h e =
-      enough-filled (day .counts) (day .maxs) tables (looks .filled) (looks .few-choices) (looks .few-choosers) (day .counts .slots) choice fills h
-      ∙ enough-safe day plan f size choice fills h (λ slot hs. e slot)
+  -- and within what the walk sees at its starts
+  pub seen-within : (choice : ℕ) (fills domains : List ℕ) → choice < day .counts .choices
+      → ((slot : ℕ) → getD fills slot 0 ≡ sumIn (day .maxs) (take choice plan) slot) → length domains ≡ 64 → Within (day .counts .slots) plan domains
+      → Within (day .counts .slots) plan (seenAt (day .counts) (day .mins) (day .maxs) (day .rows) tables (take choice plan) choice fills domains)
+  unfolding seenAt enoughAt
+  seen-within choice fills domains h s l w =
+      let looked = lookedAhead (day .counts) (day .mins) (day .maxs) (day .rows) tables (take choice plan) choice domains in
+      let before = cond (nearEnd (day .counts .choices) choice) domains looked in
+      let wb : Within (day .counts .slots) plan before = go (nearEnd (day .counts .choices) choice) in
+      rw (lt-ltb choice 64 (omega (arith, h, looks .few-choices)))
+      (set-within (day .counts .slots) plan before wb choice
+      (enoughPlaces (entryAt tables) (day .counts) choice (getD (day .maxs) choice 0) fills (getD before choice 0))
+      (omega (arith, h, looks .few-choices, size-of (nearEnd (day .counts .choices) choice))) λ k.
+      enough-keeps day plan tables f size (looks .filled) (looks .few-choices) (looks .few-choosers) choice fills (getD before choice 0) h s
+      (within-at (day .counts .slots) plan before wb choice (omega (arith, h, size))))
+    where
+      size-of : (b : Bool) → length (cond b domains (lookedAhead (day .counts) (day .mins) (day .maxs) (day .rows) tables (take choice plan) choice domains)) ≡ 64
+      size-of true = l
+      size-of false = looked-length (day .counts) (day .mins) (day .maxs) (day .rows) tables (take choice plan) choice domains l
+
+      go : (b : Bool) → Within (day .counts .slots) plan (cond b domains (lookedAhead (day .counts) (day .mins) (day .maxs) (day .rows) tables (take choice plan) choice domains))
+      go true = w
+      go false = looked-within choice domains (omega (arith, h)) l w

@@ -4,8 +4,8 @@ use mathlib.Core.Bool.{Bool, true, false, not, cond}
 use mathlib.Core.List.{List}
 use Prim.Native.Nat.{ℕ, zero, suc, _+_, _-_, _≤_, _<_}
 use native.Mathlib.Omega.{arith}
-use borrow.Author.Tests.{lt-ltb, le-ltb, eq-eqb, ne-eqb}
-use lib.Dec.{eqb}
+use borrow.Author.Tests.{lt-ltb, le-ltb, le-leb, lt-leb, leb-true, leb-false, eq-eqb, ne-eqb}
+use lib.Dec.{eqb, leb}
 use lib.ListN.{length, getD, set, replicate, List·getD-eq-default}
 use lib.Seq.{set-out}
 use Rattle.lists.specs.Below.{allBelow}
@@ -14,11 +14,13 @@ use Rattle.lists.proofs.Through.{all-none, all-done}
 use Rattle.constraint.specs.declared.check.Counts.{Counts}
 use Rattle.scheduling.specs.Plan.{slotOf}
 use Rattle.place_sets.specs.Domains.{placeNumber, onlyPlace}
-use Rattle.weight_tables.specs.Tables.{entryAt, enoughLeft}
+use Rattle.weight_tables.specs.Tables.{entryAt}
 use Rattle.slot_rules.specs.SlotRules.{slotsRule}
 use Rattle.row_rules.specs.RowsRule.{rowsRule}
 use Rattle.table_rule.specs.Rule.{tablesRule}
-use Rattle.look_ahead.specs.Look.{decided, alive, aliveOr, lookedAhead, isWorth}
+use Rattle.table_rule.specs.Enough.{enoughPlaces}
+use Rattle.count_rule.specs.CountRule.{countsRule}
+use Rattle.look_ahead.specs.Look.{decided, alive, aliveOr, weighed, lookedAhead, nearEnd, enoughAt, seenAt}
 
 -- ---- the last choice is decided
 
@@ -77,22 +79,27 @@ more-alive domains choice h n = all-more (λ choice. not (eqb (getD domains choi
 -- ---- the look ahead, by counts that are known by now
 
 module _ (counts : Counts) (mins maxs rows tables plan : List ℕ) (choice : ℕ) (domains : List ℕ) where
-  module _ {counts' : Counts} {last weighed : List ℕ} (e : counts' ≡ counts) (d : last ≡ decided (counts' .slots) plan choice domains)
-      (t : weighed ≡ tablesRule (entryAt tables) counts' maxs last) {living : Bool} (l : living ≡ alive (counts' .choices) weighed) where
-    weighed-is : weighed ≡ tablesRule (entryAt tables) counts maxs (decided (counts .slots) plan choice domains)
-    weighed-is = t ∙ ap (tablesRule (entryAt tables) counts' maxs) d ∙ ap (λ (k : Counts). tablesRule (entryAt tables) k maxs (decided (k .slots) plan choice domains)) e
+  module _ {counts' : Counts} {last by-tables by-counts : List ℕ} (e : counts' ≡ counts) (d : last ≡ decided (counts' .slots) plan choice domains)
+      (t : by-tables ≡ tablesRule (entryAt tables) counts' maxs last) (n : by-counts ≡ countsRule (entryAt tables) counts' maxs rows by-tables)
+      {living : Bool} (l : living ≡ alive (counts' .choices) by-counts) where
+    weighed-is : by-counts ≡ weighed counts maxs rows tables plan choice domains
+    unfolding weighed
+    weighed-is =
+        n
+        ∙ ap (countsRule (entryAt tables) counts' maxs rows) (t ∙ ap (tablesRule (entryAt tables) counts' maxs) d)
+        ∙ ap (λ (k : Counts). countsRule (entryAt tables) k maxs rows (tablesRule (entryAt tables) k maxs (decided (k .slots) plan choice domains))) e
 
-    living-is : living ≡ alive (counts .choices) (tablesRule (entryAt tables) counts maxs (decided (counts .slots) plan choice domains))
-    living-is = l ∙ ap (λ (k : Counts). alive (k .choices) weighed) e ∙ ap (alive (counts .choices)) weighed-is
+    living-is : living ≡ alive (counts .choices) (weighed counts maxs rows tables plan choice domains)
+    living-is = l ∙ ap (λ (k : Counts). alive (k .choices) by-counts) e ∙ ap (alive (counts .choices)) weighed-is
 
-    -- dead by the tables alone
+    -- dead by tables and counts
     pub looked-dead : {seen : List ℕ} → living ≡ false → seen ≡ replicate 64 0 → seen ≡ lookedAhead counts mins maxs rows tables plan choice domains
     unfolding lookedAhead
-    looked-dead f n = n ∙ sym (rw (sym living-is ∙ f))
+    looked-dead f z = z ∙ sym (rw (sym living-is ∙ f))
 
     -- rule after rule
     pub looked-by : {summed kept seen : List ℕ} → living ≡ true
-        → summed ≡ slotsRule counts' mins maxs weighed
+        → summed ≡ slotsRule counts' mins maxs by-counts
         → kept ≡ rowsRule counts' rows summed
         → seen ≡ aliveOr (counts' .choices) kept
         → seen ≡ lookedAhead counts mins maxs rows tables plan choice domains
@@ -100,12 +107,53 @@ module _ (counts : Counts) (mins maxs rows tables plan : List ℕ) (choice : ℕ
     looked-by y s r a =
         a
         ∙ ap (aliveOr (counts' .choices)) (r ∙ ap (rowsRule counts' rows) s)
-        ∙ ap (λ (k : Counts). aliveOr (k .choices) (rowsRule k rows (slotsRule k mins maxs weighed))) e
+        ∙ ap (λ (k : Counts). aliveOr (k .choices) (rowsRule k rows (slotsRule k mins maxs by-counts))) e
         ∙ ap (λ (w : List ℕ). aliveOr (counts .choices) (rowsRule counts rows (slotsRule counts mins maxs w))) weighed-is
         ∙ sym (rw (sym living-is ∙ y))
 
-pub worth-by : (counts : Counts) (tables : List ℕ) (choice : ℕ) (fills : List ℕ) {counts' : Counts} {worth : Bool} → counts' ≡ counts
-    → worth ≡ enoughLeft (entryAt tables) (counts' .slots) (counts' .choosers) (counts' .choices) choice fills → worth ≡ isWorth counts tables choice fills
-unfolding isWorth
-worth-by counts tables choice fills e w =
-    w ∙ ap (λ (k : Counts). enoughLeft (entryAt tables) (k .slots) (k .choosers) (k .choices) choice fills) e
+-- ---- as the walk sees it
+
+-- near the end: no choice is left, or few
+module _ (choices choice : ℕ) where
+  pub none-left : choices ≤ choice → true ≡ nearEnd choices choice
+  unfolding nearEnd
+  none-left h = sym (le-leb choices (choice + 7) (omega (arith, h)))
+
+  pub some-left : choice ≤ choices → leb (choices - choice) 7 ≡ nearEnd choices choice
+  unfolding nearEnd
+  some-left h = go (leb (choices - choice) 7) refl
+    where
+      go : (b : Bool) → leb (choices - choice) 7 ≡ b → b ≡ leb choices (choice + 7)
+      go true t = sym (le-leb choices (choice + 7) (omega (arith, leb-true (choices - choice) 7 t, h)))
+      go false t = sym (lt-leb choices (choice + 7) (omega (arith, leb-false (choices - choice) 7 t, h)))
+
+-- past the list there is no maximum
+pub most-past : (maxs : List ℕ) (choice : ℕ) → length maxs ≤ choice → 0 ≡ getD maxs choice 0
+most-past maxs choice h = sym (List·getD-eq-default maxs 0 h)
+
+module _ (counts : Counts) (maxs tables : List ℕ) (choice : ℕ) (fills domains : List ℕ) where
+  -- no choice past 63 has a domain
+  pub enough-past : 64 ≤ choice → domains ≡ enoughAt counts maxs tables choice fills domains
+  unfolding enoughAt
+  enough-past h = sym (rw (le-ltb choice 64 h))
+
+  pub enough-now : {most kept : ℕ} → choice < 64 → most ≡ getD maxs choice 0 → kept ≡ enoughPlaces (entryAt tables) counts choice most fills (getD domains choice 0)
+      → set domains choice kept ≡ enoughAt counts maxs tables choice fills domains
+  unfolding enoughAt
+  enough-now h m k =
+      ap (set domains choice) (k ∙ ap (λ (x : ℕ). enoughPlaces (entryAt tables) counts choice x fills (getD domains choice 0)) m) ∙ sym (rw (lt-ltb choice 64 h))
+
+module _ (counts : Counts) (mins maxs rows tables plan : List ℕ) (choice : ℕ) (fills domains : List ℕ) {counts' : Counts} (e : counts' ≡ counts)
+    {b : Bool} (n : b ≡ nearEnd (counts' .choices) choice) where
+  near-is : nearEnd (counts .choices) choice ≡ b
+  near-is = ap (λ (k : Counts). nearEnd (k .choices) choice) (sym e) ∙ sym n
+
+  pub seen-near : {seen : List ℕ} → b ≡ true → seen ≡ enoughAt counts' maxs tables choice fills domains → seen ≡ seenAt counts mins maxs rows tables plan choice fills domains
+  unfolding seenAt
+  seen-near t s = s ∙ ap (λ (k : Counts). enoughAt k maxs tables choice fills domains) e ∙ sym (rw (near-is ∙ t))
+
+  pub seen-far : {looked : List ℕ} {seen : List ℕ} → b ≡ false → looked ≡ lookedAhead counts mins maxs rows tables plan choice domains
+      → seen ≡ enoughAt counts' maxs tables choice fills looked → seen ≡ seenAt counts mins maxs rows tables plan choice fills domains
+  unfolding seenAt
+  seen-far {looked} f l s =
+      s ∙ ap (λ (k : Counts). enoughAt k maxs tables choice fills looked) e ∙ ap (enoughAt counts maxs tables choice fills) l ∙ sym (rw (near-is ∙ f))

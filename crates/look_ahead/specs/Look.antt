@@ -1,17 +1,19 @@
--- What the walk looks at before it goes on from a start: what the rules leave of the domains, and whether enough choices are left.
+-- What the walk looks at before it goes on from a start: what the rules leave of the domains, and the places of the next choice with which enough choices are left.
 use mathlib.Core.Bool.{Bool, true, not, cond}
 use mathlib.Core.List.{List}
-use Prim.Native.Nat.{ℕ, zero, suc}
-use lib.Dec.{eqb}
+use Prim.Native.Nat.{ℕ, zero, suc, _+_}
+use lib.Dec.{eqb, ltb, leb}
 use lib.ListN.{getD, set, replicate}
 use Rattle.lists.specs.Below.{allBelow}
 use Rattle.constraint.specs.declared.check.Counts.{Counts}
 use Rattle.scheduling.specs.Plan.{slotOf}
 use Rattle.place_sets.specs.Domains.{placeNumber, onlyPlace}
-use Rattle.weight_tables.specs.Tables.{entryAt, enoughLeft}
+use Rattle.weight_tables.specs.Tables.{entryAt}
 use Rattle.slot_rules.specs.SlotRules.{slotsRule}
 use Rattle.row_rules.specs.RowsRule.{rowsRule}
 use Rattle.table_rule.specs.Rule.{tablesRule}
+use Rattle.table_rule.specs.Enough.{enoughPlaces}
+use Rattle.count_rule.specs.CountRule.{countsRule}
 
 -- the domains once the last of so many choices stands at its place
 unfoldable pub decided : ℕ → List ℕ → ℕ → List ℕ → List ℕ
@@ -26,14 +28,29 @@ alive choices domains = allBelow choices λ choice. not (eqb (getD domains choic
 unfoldable pub aliveOr : ℕ → List ℕ → List ℕ
 aliveOr choices domains = cond (alive choices domains) domains (replicate 64 0)
 
--- the domains at a start: its last choice is decided, the tables take away what they leave to no plan, and then, unless the start is dead by now, so do slots and rows
+-- what tables and counts leave once the last choice is decided
+unfoldable pub weighed : Counts → List ℕ → List ℕ → List ℕ → List ℕ → ℕ → List ℕ → List ℕ
+weighed counts maxs rows tables plan choice domains =
+    countsRule (entryAt tables) counts maxs rows (tablesRule (entryAt tables) counts maxs (decided (counts .slots) plan choice domains))
+
+-- the domains at a start: its last choice is decided, tables and counts take away what they leave to no plan, and then, unless the start is dead by now, so do slots and rows
 unfoldable pub lookedAhead : Counts → List ℕ → List ℕ → List ℕ → List ℕ → List ℕ → ℕ → List ℕ → List ℕ
 lookedAhead counts mins maxs rows tables plan choice domains =
-    let weighed = tablesRule (entryAt tables) counts maxs (decided (counts .slots) plan choice domains) in
-    cond (alive (counts .choices) weighed) (aliveOr (counts .choices) (rowsRule counts rows (slotsRule counts mins maxs weighed)))
+    cond (alive (counts .choices) (weighed counts maxs rows tables plan choice domains))
+    (aliveOr (counts .choices) (rowsRule counts rows (slotsRule counts mins maxs (weighed counts maxs rows tables plan choice domains))))
     (replicate 64 0)
 
--- a start is worth going on from if the choices left are enough for what the slots lack
-unfoldable pub isWorth : Counts → List ℕ → ℕ → List ℕ → Bool
-isWorth counts tables choice fills =
-    enoughLeft (entryAt tables) (counts .slots) (counts .choosers) (counts .choices) choice fills
+-- with seven choices left or fewer the walk looks ahead no more
+unfoldable pub nearEnd : ℕ → ℕ → Bool
+nearEnd choices choice = leb choices (choice + 7)
+
+-- of the next choice's places those stay with which the choices after it are still enough for what the slots lack; no choice past 63 has any
+unfoldable pub enoughAt : Counts → List ℕ → List ℕ → ℕ → List ℕ → List ℕ → List ℕ
+enoughAt counts maxs tables choice fills domains =
+    cond (ltb choice 64) (set domains choice (enoughPlaces (entryAt tables) counts choice (getD maxs choice 0) fills (getD domains choice 0))) domains
+
+-- the domains as the walk sees them at a start, the slots filled so far
+unfoldable pub seenAt : Counts → List ℕ → List ℕ → List ℕ → List ℕ → List ℕ → ℕ → List ℕ → List ℕ → List ℕ
+seenAt counts mins maxs rows tables plan choice fills domains =
+    enoughAt counts maxs tables choice fills
+    (cond (nearEnd (counts .choices) choice) domains (lookedAhead counts mins maxs rows tables plan choice domains))

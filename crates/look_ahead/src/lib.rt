@@ -3,3 +3,4 @@
 mod alive;
 mod decided;
 pub mod look;
+pub mod see;

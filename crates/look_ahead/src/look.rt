@@ -1,18 +1,18 @@
-// The look ahead: what every rule leaves of the domains at a start, and whether the start is worth it.
+// The look ahead: what every rule leaves of the domains at a start.
 use super::alive::alive_or;
 use super::alive::all_alive;
 use super::alive::no_places;
 use super::decided::with_decided;
+use count_rule::rule::narrow_by_counts;
 use listing_starts::full::counts_of;
 use row_rules::rows::narrow_by_rows;
 use slot_rules::sums::narrow_by_slots;
 use table_rule::rule::narrow_by_tables;
-use weight_tables::enough::enough_left;
 ghost use mathlib.Core.Path.{_≡_};
 ghost use Rattle.listing_nodes.specs.steps.Walk.{countsOf};
-ghost use Rattle.look_ahead.specs.Look.{lookedAhead, isWorth};
+ghost use Rattle.look_ahead.specs.Look.{lookedAhead};
 
-// The domains once the choice before this one is decided: every rule takes away what it leaves to no plan. Most dead starts are told by the tables alone.
+// The domains once the choice before this one is decided: every rule takes away what it leaves to no plan. Most dead starts are told by tables and counts.
 pub fn look_ahead(
     asked: &[usize; 6],
     mins: &[u16],
@@ -28,30 +28,11 @@ pub fn look_ahead(
     let counts = counts_of(asked);
     let mut seen = with_decided(counts.slots, choice, plan, *domains);
     narrow_by_tables(counts, maxs, tables, &mut seen);
+    narrow_by_counts(counts, maxs, rows, tables, &mut seen);
     if !all_alive(counts.choices, &seen) {
         return no_places();
     }
     narrow_by_slots(counts, mins, maxs, &mut seen);
     narrow_by_rows(counts, rows, &mut seen);
     alive_or(counts.choices, seen)
-}
-
-// Whether a start is worth going on from: the choices left are enough for what the slots lack.
-pub fn is_worth(
-    asked: &[usize; 6],
-    tables: &[u16; 65_325],
-    choice: usize,
-    fills: &[usize; 24],
-) -> bool
-    ensures { λ r. ⌜ r ≡ isWorth (countsOf (now (asked .entry))) (now (tables .entry)) choice (now (fills .entry)) ⌝ }
-{
-    let counts = counts_of(asked);
-    enough_left(
-        counts.slots,
-        counts.choosers,
-        counts.choices,
-        choice,
-        fills,
-        tables,
-    )
 }

@@ -58,7 +58,7 @@ module _ (counts : Counts) (mins maxs optional rows : List ℕ) (first room budg
   -- and where it ends
   pub page-answers : (domains : List ℕ) {blank tables : List ℕ} {going : Bool} {turns met : ℕ} {buffer' : List ℕ} {told : Told PageTold}
       → Fills counts maxs blank tables
-      → (length domains ≡ 64) × ((choice : ℕ) → choice < length optional → getD domains choice 0 ≡ firstDomain (counts .slots) (getD optional choice 0))
+      → (length domains ≡ 64) × ((choice : ℕ) → choice < 64 → getD domains choice 0 ≡ firstDomain (counts .slots) (getD optional choice 0))
       → standing going turns met buffer' ≡ run (getD asked 4 0) (getD asked 5 0) (standing true budget 0 buffer) (eventsFrom (dayOf (countsOf asked) mins maxs optional rows) tables (getD asked 0 0) [] (replicate 24 0) (replicate 24 0) domains)
       → told ≡ done (toldOf first room going met)
       → judgeOf (dayOf counts mins maxs optional rows) room (length buffer) ≡ good
@@ -69,5 +69,5 @@ module _ (counts : Counts) (mins maxs optional rows : List ℕ) (first room budg
       page-given (dayOf counts mins maxs optional rows) first room budget buffer g t
       (gives-told (dayOf counts mins maxs optional rows) first room budget buffer (standing going turns met buffer')
       (walk-holds (dayOf counts mins maxs optional rows) first room budget buffer tables domains (standing going turns met buffer') j (f .filled fits) (d .0)
-      (λ i h. d .1 i (omega (arith, h, j .optional-fits)))
+      (λ i h. d .1 i (omega (arith, h, j .few-choices)))
       (rw a at s)))

@@ -8,12 +8,13 @@ use listing_starts::full::no_plan;
 use listing_starts::full::numbers_asked;
 use page_answers::page::Paged;
 use page_answers::page::told;
-use place_sets::places::first_domain;
+use place_sets::places::first_domains;
 use weight_tables::fill::fill_tables;
+use weight_tables::fill::no_tables;
 ghost use mathlib.Core.Path.{_≡_};
 ghost use mathlib.Core.Bool.{true};
-ghost use mathlib.Core.List.{List, []};
-ghost use Prim.Native.Nat.{ℕ, _+_, _≤_, _<_, _^_};
+ghost use mathlib.Core.List.{[]};
+ghost use Prim.Native.Nat.{_+_, _<_, _^_};
 ghost use lib.ListN.{length, getD, replicate};
 ghost use Rattle.constraint.specs.Told.{good};
 ghost use Rattle.scheduling.specs.Day.{dayOf};
@@ -21,38 +22,9 @@ ghost use Rattle.listing_nodes.specs.Judge.{judgeOf};
 ghost use Rattle.listing_nodes.specs.steps.Walk.{countsOf};
 ghost use Rattle.listing_nodes.specs.steps.Runs.{Judged};
 ghost use Rattle.alive_starts.specs.Run.{standing, run, goesOn};
-ghost use Rattle.place_sets.specs.Domains.{firstDomain};
 ghost use Rattle.walk_steps.specs.Sight.{eventsFrom};
 ghost use Rattle.page_answers.specs.Page.{pagedTells};
 ghost use Rattle.plan_walk.specs.Page.{Fits};
-
-// Room for the tables of weights.
-fn no_tables() -> [u16; 65_325]
-    ensures { λ r. ⌜ length r ≡ 65325 ⌝ }
-{
-    [0u16; 65_325]
-}
-
-// No place for any of 64 choices.
-fn no_domains() -> [u64; 64]
-    ensures { λ r. ⌜ length r ≡ 64 ⌝ }
-{
-    [0u64; 64]
-}
-
-// Each choice's places before anything is decided.
-fn first_domains(slots: usize, optional: &[u8]) -> [u64; 64]
-    requires { ⌜ length (now optional) ≤ 64 ⌝ }
-    ensures { λ r. ⌜ (length r ≡ 64) × ((choice : ℕ) → choice < length (now (optional .entry)) → getD r choice 0 ≡ firstDomain slots (getD (now (optional .entry)) choice 0)) ⌝ }
-{
-    let mut domains = no_domains();
-    let mut choice = 0;
-    while choice < optional.len() {
-        domains[choice] = first_domain(slots, optional[choice]);
-        choice += 1;
-    }
-    domains
-}
 
 // The walk from the empty start, with these turns.
 fn walk_all(
@@ -93,7 +65,7 @@ fn walk_all(
     )
 }
 
-// A day that is not refused: its tables and first domains, and the walk.
+// A day that is not refused: its tables, its choices' first domains, and the walk.
 fn page_of_day(
     counts: Counts,
     mins: &[u16],

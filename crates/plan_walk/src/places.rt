@@ -8,7 +8,7 @@ ghost use mathlib.Core.Path.{_≡_};
 ghost use Prim.Native.Nat.{_+_, _*_, _≤_, _<_, _^_};
 ghost use lib.ListN.{length, getD, set};
 ghost use Rattle.listing_nodes.specs.steps.Walk.{placeOf, sumsWith, sumsWithout};
-ghost use Rattle.walk_steps.specs.Sight.{nextIn, nearEnd};
+ghost use Rattle.walk_steps.specs.Sight.{nextIn};
 
 // How many places are left from the next one on that fits and that the domain has; 0 if there is none.
 pub(crate) fn next_in(
@@ -41,14 +41,6 @@ pub(crate) fn next_in(
         open - 1,
         sums,
     )
-}
-
-// With five choices left or fewer the walk looks ahead no more: there a look costs more than it spares.
-pub(crate) fn near_end(choices: usize, choice: usize) -> bool
-    requires { ⌜ choice < 2 ^ 63 ⌝ }
-    ensures { λ r. ⌜ r ≡ nearEnd choices choice ⌝ }
-{
-    choices <= choice + 5
 }
 
 // The choice stands at a place.

@@ -1,14 +1,12 @@
 // The walk itself, in 01's form for the listing. A slice is copied at each call, a reference to it isn't; the buffer alone can't be had behind one.
 use super::places::leave_place;
-use super::places::near_end;
 use super::places::next_in;
 use super::places::take_place;
 use listing_starts::full::CHOOSERS;
 use listing_starts::full::SLOTS;
 use listing_starts::full::list_plan;
 use listing_starts::places::place_at;
-use look_ahead::look::is_worth;
-use look_ahead::look::look_ahead;
+use look_ahead::see::see;
 ghost use mathlib.Core.Path.{_≡_};
 ghost use mathlib.Core.Bool.{true};
 ghost use Prim.Native.Nat.{_+_, _-_};
@@ -26,7 +24,7 @@ fn goes_on(asked: &[usize; 6], met: u64) -> bool
     page_answers::page::goes_on(asked[4] as u64, asked[5] as u64, met)
 }
 
-// 'one function per choice': a start takes a turn; if it is worth it, its choice takes the places that its domain has.
+// 'one function per choice': a start takes a turn, and its choice takes the places that are seen for it.
 pub(crate) fn walk_choice(
     asked: &[usize; 6],
     mins: &&[u16],
@@ -50,48 +48,24 @@ pub(crate) fn walk_choice(
         return false;
     }
     *turns -= 1;
-    if !is_worth(asked, tables, choice, fills) {
-        return true;
-    }
     if choice == plan.len() {
         list_plan(asked, *mins, *maxs, *optional, *rows, *plan, met, buffer);
         return goes_on(asked, *met);
     }
     let slots = asked[SLOTS];
     let choosers = asked[CHOOSERS];
-    if near_end(plan.len(), choice) {
-        let left = next_in(
-            slots,
-            choosers,
-            mins,
-            optional,
-            choice,
-            domains[choice],
-            slots + 1,
-            sums,
-        );
-        if left == 0 {
-            return true;
-        }
-        return walk_place(
-            asked,
-            mins,
-            maxs,
-            optional,
-            rows,
-            tables,
-            domains,
-            choice,
-            left,
-            plan,
-            sums,
-            fills,
-            turns,
-            met,
-            buffer,
-        );
-    }
-    let seen = look_ahead(asked, *mins, *maxs, *rows, tables, choice, *plan, domains);
+    let mut seen = *domains;
+    see(
+        asked,
+        *mins,
+        *maxs,
+        *rows,
+        tables,
+        choice,
+        *plan,
+        fills,
+        &mut seen,
+    );
     let left = next_in(
         slots,
         choosers,

@@ -2,5 +2,4 @@
 pub mod InLaws
 pub mod WalkLaws
 pub mod CallLaws
-pub mod FirstLaws
 pub mod SafeEyes

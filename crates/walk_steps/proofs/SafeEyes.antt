@@ -29,9 +29,8 @@ use Rattle.alive_starts.proofs.PageHolds.{page-holds}
 use Rattle.place_sets.specs.Domains.{placeNumber, Within, firstDomain}
 use Rattle.place_sets.proofs.DomainLaws.{within-at, first-within}
 use Rattle.weight_tables.specs.Tables.{Filled}
-use Rattle.look_ahead.specs.Look.{lookedAhead}
-use Rattle.look_ahead.proofs.LookLaws.{Looks, looked-within, looked-length, worth-safe}
-use Rattle.walk_steps.specs.Sight.{Carried, carried, nearEnd, seen, mayTake, eyesOf, eventsFrom}
+use Rattle.look_ahead.proofs.LookLaws.{Looks, seen-length, seen-within}
+use Rattle.walk_steps.specs.Sight.{Carried, carried, seen, mayTake, eyesOf, eventsFrom}
 
 -- every feasible plan that goes on from a start is within the domains
 unfoldable pub Leaves : Day → List ℕ → List ℕ → Type 0
@@ -79,30 +78,17 @@ module _ (day : Day) (few : day .counts .slots ≤ 24) (amounts start sums : Lis
 
 -- ---- the domains at a start
 
-module _ (day : Day) (tables : List ℕ) (looks : Looks day tables) (start domains : List ℕ) (size : length domains ≡ 64) where
-  seen-length : length (seen day tables start domains) ≡ 64
+module _ (day : Day) (tables : List ℕ) (looks : Looks day tables) (start fills domains : List ℕ) (size : length domains ≡ 64) where
+  see-length : length (seen day tables start fills domains) ≡ 64
   unfolding seen
-  seen-length = go (nearEnd (day .counts .choices) (length start))
-    where
-      go : (b : Bool) → length (cond b domains (lookedAhead (day .counts) (day .mins) (day .maxs) (day .rows) tables start (length start) domains)) ≡ 64
-      go true = size
-      go false = looked-length (day .counts) (day .mins) (day .maxs) (day .rows) tables start (length start) domains size
+  see-length = seen-length (day .counts) (day .mins) (day .maxs) (day .rows) tables start (length start) fills domains size
 
-  seen-leaves : Leaves day start domains → Leaves day start (seen day tables start domains)
-  unfolding Leaves seen
-  seen-leaves w rest e f = go (nearEnd (day .counts .choices) (length start))
-    where
-      few : length start ≤ day .counts .choices
-      few = omega (arith, e, length-append start rest)
-
-      looked : Within (day .counts .slots) (start ++ rest) (lookedAhead (day .counts) (day .mins) (day .maxs) (day .rows) tables start (length start) domains)
-      looked =
-          rw (take-append-seam start rest) at
-          (looked-within day tables looks (start ++ rest) f e (length start) domains few size (w rest e f))
-
-      go : (b : Bool) → Within (day .counts .slots) (start ++ rest) (cond b domains (lookedAhead (day .counts) (day .mins) (day .maxs) (day .rows) tables start (length start) domains))
-      go true = w rest e f
-      go false = looked
+  see-leaves : Sums (day .maxs) start fills → length start < day .counts .choices → Leaves day start domains → Leaves day start (seen day tables start fills domains)
+  unfolding Leaves seen Sums
+  see-leaves s few w rest e f =
+      rw (take-append-seam start rest) at
+      (seen-within day tables looks (start ++ rest) f e (length start) fills domains few
+      (λ slot. s slot ∙ ap (λ (l : List ℕ). sumIn (day .maxs) l slot) (sym (take-append-seam start rest))) size (w rest e f))
 
 -- a plan that goes on from the next start goes on from this one
 leaves-next : (day : Day) (start domains : List ℕ) (place : ℕ) → Leaves day start domains → Leaves day (start ++ (place ∷ [])) domains
@@ -116,10 +102,8 @@ leaves-next day start domains place w rest e f =
 module _ (day : Day) (tables : List ℕ) (looks : Looks day tables) where
   worth : (start rest : List ℕ) (x : Carried) → Holds day start x → length (start ++ rest) ≡ day .counts .choices → feasible day (start ++ rest) ≡ true
       → eyesOf day tables .worth start x ≡ true
-  unfolding eyesOf Sums
-  worth start rest x h e f =
-      worth-safe day tables looks (start ++ rest) f e (length start) (x .fills) (omega (arith, e, length-append start rest)) λ slot.
-      h .filled slot ∙ ap (λ (l : List ℕ). sumIn (day .maxs) l slot) (sym (take-append-seam start rest))
+  unfolding eyesOf
+  worth start rest x h e f = refl
 
   -- the place of the next choice
   next-place : (start rest : List ℕ) (place : ℕ) → slotOf (start ++ (place ∷ rest)) (length start) ≡ place
@@ -137,11 +121,11 @@ module _ (day : Day) (tables : List ℕ) (looks : Looks day tables) where
       let node : isNode day (start ++ (place ∷ [])) ≡ true = node-start day (start ++ (place ∷ [])) rest (feasible-node day ((start ++ (place ∷ [])) ++ rest) f) in
       let goes : goesTo day start (x .sums) place ≡ true =
       sym (step-node day start (x .sums) (looks .few-slots) (node-facts day start (h .reached .node)) (h .reached .held) place) ∙ node in
-      let w = seen-leaves day tables looks start (x .domains) (h .size) (h .leaves) (place ∷ rest) e' f' in
       let n : length start < length plan = omega (arith, length-append start (place ∷ rest)) in
-      let b : has (getD (seen day tables start (x .domains)) (length start) 0) (placeNumber (day .counts .slots) place) ≡ true =
-      sym (ap (λ (p : ℕ). has (getD (seen day tables start (x .domains)) (length start) 0) (placeNumber (day .counts .slots) p)) (next-place start rest place))
-      ∙ within-at (day .counts .slots) plan (seen day tables start (x .domains)) w (length start) n in
+      let w = see-leaves day tables looks start (x .fills) (x .domains) (h .size) (h .filled) (omega (arith, n, e')) (h .leaves) (place ∷ rest) e' f' in
+      let b : has (getD (seen day tables start (x .fills) (x .domains)) (length start) 0) (placeNumber (day .counts .slots) place) ≡ true =
+      sym (ap (λ (p : ℕ). has (getD (seen day tables start (x .fills) (x .domains)) (length start) 0) (placeNumber (day .counts .slots) p)) (next-place start rest place))
+      ∙ within-at (day .counts .slots) plan (seen day tables start (x .fills) (x .domains)) w (length start) n in
       and-both _ _ goes b
 
   next : (start : List ℕ) (place : ℕ) (x : Carried) → Holds day start x → length start < day .counts .choices → eyesOf day tables .opens start x place ≡ true
@@ -150,13 +134,13 @@ module _ (day : Day) (tables : List ℕ) (looks : Looks day tables) where
   next start place x h l o =
       let goes : goesTo day start (x .sums) place ≡ true =
       and-left (placeFits (day .counts .slots) (day .counts .choosers) (day .mins) (day .optional) (x .sums) (length start) place)
-      (has (getD (seen day tables start (x .domains)) (length start) 0) (placeNumber (day .counts .slots) place)) o in
+      (has (getD (seen day tables start (x .fills) (x .domains)) (length start) 0) (placeNumber (day .counts .slots) place)) o in
       record {
         reached = reached-next day start (x .sums) (h .reached) place goes;
         filled = with-sums day (looks .few-slots) (day .maxs) start (x .fills) (h .filled) (h .entries) place (x .sums) goes;
         entries = with-length day (looks .few-slots) (day .maxs) start (x .fills) (h .filled) (h .entries) place;
-        size = seen-length day tables looks start (x .domains) (h .size);
-        leaves = leaves-next day start (seen day tables start (x .domains)) place (seen-leaves day tables looks start (x .domains) (h .size) (h .leaves));
+        size = see-length day tables looks start (x .fills) (x .domains) (h .size);
+        leaves = leaves-next day start (seen day tables start (x .fills) (x .domains)) place (see-leaves day tables looks start (x .fills) (x .domains) (h .size) (h .filled) l (h .leaves));
       }
 
   -- the eyes are safe

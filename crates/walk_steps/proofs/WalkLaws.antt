@@ -25,9 +25,9 @@ use Rattle.alive_starts.specs.Run.{Standing, standing, run, goesOn}
 use Rattle.alive_starts.proofs.RunLaws.{run-stopped, run-append, run-out, run-visit, run-plan, Ran, ran}
 use Rattle.alive_starts.proofs.Visits.{plans-cost-turns}
 use Rattle.place_sets.specs.Domains.{placeNumber}
-use Rattle.look_ahead.specs.Look.{lookedAhead, isWorth}
-use Rattle.look_ahead.proofs.LookLaws.{looked-start}
-use Rattle.walk_steps.specs.Sight.{carried, nearEnd, seen, mayTake, nextIn, eyesOf, eventsFrom, eventsAt, eventsLeft}
+use Rattle.look_ahead.specs.Look.{seenAt}
+use Rattle.look_ahead.proofs.LookLaws.{seen-start}
+use Rattle.walk_steps.specs.Sight.{carried, seen, mayTake, nextIn, eyesOf, eventsFrom, eventsAt, eventsLeft}
 use Rattle.walk_steps.specs.Walks.{Filled, Ready, Walked, Takes}
 use Rattle.walk_steps.proofs.InLaws.{in-within, takes-next}
 
@@ -126,20 +126,20 @@ module _ (day : Day) (tables : List ℕ) (n : ℕ) (start sums fills domains : L
         go false t ih = ih ∙ rw (at, t)
 
 module _ (day : Day) (tables : List ℕ) (start sums fills domains : List ℕ) where
-  -- what comes after the visit of a start that is worth it
+  -- what comes after the visit of a start
   unfoldable bodyOf : ℕ → List Event
   bodyOf zero = map plan (ifFeasible day start)
-  bodyOf (suc n) = eventsLeft day tables n start sums fills (seen day tables start domains) (day .counts .slots + 1)
+  bodyOf (suc n) = eventsLeft day tables n start sums fills (seen day tables start fills domains) (day .counts .slots + 1)
 
-  events-are : (n : ℕ) → eventsFrom day tables n start sums fills domains ≡ visit ∷ cond (isWorth (day .counts) tables (length start) fills) (bodyOf n) []
+  events-are : (n : ℕ) → eventsFrom day tables n start sums fills domains ≡ visit ∷ bodyOf n
   unfolding eventsFrom events eyesOf eventsAt bodyOf
   events-are zero = refl
   events-are (suc n) =
       let z : day .counts .slots - day .counts .slots ≡ 0 = omega arith in
-      ap (λ (l : List Event). visit ∷ cond (isWorth (day .counts) tables (length start) fills) l [])
+      ap (λ (l : List Event). visit ∷ l)
       (sym
       (rw (add-one (day .counts .slots))
-      (left-past day tables n start sums fills (seen day tables start domains) (day .counts .slots) (omega arith)
+      (left-past day tables n start sums fills (seen day tables start fills domains) (day .counts .slots) (omega arith)
       ∙ rw (z, places-start (day .counts .slots)))))
 
 -- a full start: the plan that the plan check passes is counted
@@ -184,144 +184,118 @@ module _ {day : Day} {first room choice : ℕ} {p sums fills : List ℕ} {turns 
       (sym
       (rw z
       (ap (run first room (standing true 0 met buffer)) (events-are day tables (take choice p) sums fills domains (length p - choice))
-      ∙ run-out first room met buffer (cond (isWorth (day .counts) tables (length (take choice p)) fills) (bodyOf day tables (take choice p) sums fills domains (length p - choice)) []))))
+      ∙ run-out first room met buffer (bodyOf day tables (take choice p) sums fills domains (length p - choice)))))
 
   module _ (n : turns ≡ 0 → ⊥) where
     pub one-turn : 1 ≤ turns
     one-turn = pos-of-ne-zero n
 
-    -- a turn is taken, and then what is worth it
-    after-visit : {b : Bool} → b ≡ isWorth (day .counts) tables choice fills
-        → run first room (standing true turns met buffer) (hereOf day tables choice p sums fills domains)
-        ≡ run first room (standing true (turns - 1) met buffer) (cond b (bodyOf day tables (take choice p) sums fills domains (length p - choice)) [])
-    after-visit {b} w =
+    -- a turn is taken
+    after-visit : run first room (standing true turns met buffer) (hereOf day tables choice p sums fills domains)
+        ≡ run first room (standing true (turns - 1) met buffer) (bodyOf day tables (take choice p) sums fills domains (length p - choice))
+    after-visit =
         let k : turns ≡ suc (turns - 1) = omega (arith, one-turn) in
         ap (run first room (standing true turns met buffer)) (events-are day tables (take choice p) sums fills domains (length p - choice))
-        ∙ ap
-        (λ (t : ℕ). run first room (standing true t met buffer) (visit ∷ cond (isWorth (day .counts) tables (length (take choice p)) fills) (bodyOf day tables (take choice p) sums fills domains (length p - choice)) []))
-        k
-        ∙ run-visit first room (turns - 1) met buffer (cond (isWorth (day .counts) tables (length (take choice p)) fills) (bodyOf day tables (take choice p) sums fills domains (length p - choice)) [])
-        ∙ ap (λ (c : Bool). run first room (standing true (turns - 1) met buffer) (cond c (bodyOf day tables (take choice p) sums fills domains (length p - choice)) []))
-        (ap (λ (i : ℕ). isWorth (day .counts) tables i fills) (length-take-le choice p so-far) ∙ sym w)
+        ∙ ap (λ (t : ℕ). run first room (standing true t met buffer) (visit ∷ bodyOf day tables (take choice p) sums fills domains (length p - choice))) k
+        ∙ run-visit first room (turns - 1) met buffer (bodyOf day tables (take choice p) sums fills domains (length p - choice))
 
-    -- a start that isn't worth it
-    pub walked-past : {b : Bool} → b ≡ isWorth (day .counts) tables choice fills → b ≡ false
-        → Walked first room choice (hereOf day tables choice p sums fills domains) p p sums sums fills fills (standing true turns met buffer) (standing true (turns - 1) met buffer)
-    unfolding run
-    walked-past w f = unmoved (sym (after-visit w ∙ ap (λ (c : Bool). run first room (standing true (turns - 1) met buffer) (cond c (bodyOf day tables (take choice p) sums fills domains (length p - choice)) [])) f))
+    -- a full start
+    module _ (e : choice ≡ length p) where
+      pub full-numbers : met + length (ifFeasible day p) < 2 ^ 64
+      unfolding ifFeasible
+      full-numbers = go (feasible day p)
+        where
+          go : (c : Bool) → met + length (cond c (p ∷ []) []) < 2 ^ 64
+          go true = omega (arith, l .numbers, one-turn)
+          go false = omega (arith, l .numbers)
 
-    module _ {b : Bool} (w : b ≡ isWorth (day .counts) tables choice fills) (t : b ≡ true) where
-      worth-visit : run first room (standing true turns met buffer) (hereOf day tables choice p sums fills domains)
-          ≡ run first room (standing true (turns - 1) met buffer) (bodyOf day tables (take choice p) sums fills domains (length p - choice))
-      worth-visit =
-          after-visit w ∙ ap (λ (c : Bool). run first room (standing true (turns - 1) met buffer) (cond c (bodyOf day tables (take choice p) sums fills domains (length p - choice)) [])) t
-
-      -- a full start
-      module _ (e : choice ≡ length p) where
-        pub full-numbers : met + length (ifFeasible day p) < 2 ^ 64
-        unfolding ifFeasible
-        full-numbers = go (feasible day p)
-          where
-            go : (c : Bool) → met + length (cond c (p ∷ []) []) < 2 ^ 64
-            go true = omega (arith, l .numbers, one-turn)
-            go false = omega (arith, l .numbers)
-
-        pub walked-full : {met' : ℕ} {p' buffer' : List ℕ} {r : Bool} → p' ≡ p → Added first room (ifFeasible day p) met met' buffer buffer' → r ≡ goesOn first room met'
-            → Walked first room choice (hereOf day tables choice p sums fills domains) p p' sums sums fills fills (standing true turns met buffer) (standing r (turns - 1) met' buffer')
-        unfolding bodyOf
-        walked-full {met'} {p'} {buffer'} s a g =
-            let z : length p - choice ≡ 0 = omega (arith, e) in
-            record {
-              stands =
-                  ap (λ (c : Bool). standing c (turns - 1) met' buffer') g
-                  ∙ run-full day first room (turns - 1) p (l .unfinished) a
-                  ∙ ap (λ (q : List ℕ). run first room (standing true (turns - 1) met buffer) (map plan (ifFeasible day q))) (sym (take-length p) ∙ ap (λ (i : ℕ). take i p) (sym e))
-                  ∙ ap (λ (i : ℕ). run first room (standing true (turns - 1) met buffer) (bodyOf day tables (take choice p) sums fills domains i)) (sym z)
-                  ∙ sym worth-visit;
-              start = ap (take choice) s;
-              same-sums = refl;
-              same-fills = refl;
-              same-plan = ap length s;
-            }
-
-      -- any other goes on to the places that the choice may take, the domains as they are seen
-      module _ (m : choice ≡ length p → ⊥) {seeing : List ℕ} (v : seeing ≡ seen day tables (take choice p) domains)
-          {next : ℕ} (e : next ≡ nextIn (day .counts .slots) (day .counts .choosers) (day .mins) (day .optional) sums (getD seeing choice 0) choice (day .counts .slots + 1)) where
-        before-end : choice < length p
-        before-end = lt-of-le-ne so-far m
-
-        on-visit : run first room (standing true turns met buffer) (hereOf day tables choice p sums fills domains)
-            ≡ run first room (standing true (turns - 1) met buffer) (leftOf day tables choice p sums fills seeing next)
-        unfolding bodyOf
-        on-visit =
-            let k : length p - choice ≡ suc (length p - (choice + 1)) = omega (arith, before-end) in
-            worth-visit
-            ∙ ap (λ (i : ℕ). run first room (standing true (turns - 1) met buffer) (bodyOf day tables (take choice p) sums fills domains i)) k
-            ∙ ap (λ (d : List ℕ). run first room (standing true (turns - 1) met buffer) (leftOf day tables choice p sums fills d (day .counts .slots + 1))) (sym v)
-            ∙ ap (run first room (standing true (turns - 1) met buffer))
-            (sym
-            (ap (leftOf day tables choice p sums fills seeing) e
-            ∙ left-in day tables (length p - (choice + 1)) (take choice p) sums fills seeing (length-take-le choice p so-far) (day .counts .slots + 1)))
-
-        pub walked-none : next ≡ 0
-            → Walked first room choice (hereOf day tables choice p sums fills domains) p p sums sums fills fills (standing true turns met buffer) (standing true (turns - 1) met buffer)
-        unfolding eventsLeft run
-        walked-none z =
-            unmoved (sym (on-visit ∙ ap (λ (i : ℕ). run first room (standing true (turns - 1) met buffer) (leftOf day tables choice p sums fills seeing i)) z))
-
-        pub on-requires : (next ≡ 0 → ⊥) → Ready day first room (choice + 1) choice p sums fills (turns - 1) met buffer × Takes day choice next sums seeing
-        on-requires k = (
+      pub walked-full : {met' : ℕ} {p' buffer' : List ℕ} {r : Bool} → p' ≡ p → Added first room (ifFeasible day p) met met' buffer buffer' → r ≡ goesOn first room met'
+          → Walked first room choice (hereOf day tables choice p sums fills domains) p p' sums sums fills fills (standing true turns met buffer) (standing r (turns - 1) met' buffer')
+      unfolding bodyOf
+      walked-full {met'} {p'} {buffer'} s a g =
+          let z : length p - choice ≡ 0 = omega (arith, e) in
           record {
-            shaped = l .shaped;
-            walks = walks-next (l .walks) (λ i. m (i ∙ l .shaped .mins-fit ∙ sym (l .shaped .plan-fits)));
-            filled = l .filled;
-            unfinished = l .unfinished;
-            numbers = omega (arith, l .numbers);
-          },
-          takes-next day choice (day .counts .slots + 1) sums seeing (omega arith) e k,
-        )
+            stands =
+                ap (λ (c : Bool). standing c (turns - 1) met' buffer') g
+                ∙ run-full day first room (turns - 1) p (l .unfinished) a
+                ∙ ap (λ (q : List ℕ). run first room (standing true (turns - 1) met buffer) (map plan (ifFeasible day q))) (sym (take-length p) ∙ ap (λ (i : ℕ). take i p) (sym e))
+                ∙ ap (λ (i : ℕ). run first room (standing true (turns - 1) met buffer) (bodyOf day tables (take choice p) sums fills domains i)) (sym z)
+                ∙ sym after-visit;
+            start = ap (take choice) s;
+            same-sums = refl;
+            same-fills = refl;
+            same-plan = ap length s;
+          }
 
-        pub walked-on : {after : Standing} {p' sums' fills' : List ℕ}
-            → Walked first room choice (leftOf day tables choice p sums fills seeing next) p p' sums sums' fills fills' (standing true (turns - 1) met buffer) after
+    -- any other goes on to the places that the choice may take, the domains as they are seen
+    module _ (m : choice ≡ length p → ⊥) {seeing : List ℕ} (v : seeing ≡ seen day tables (take choice p) fills domains)
+        {next : ℕ} (e : next ≡ nextIn (day .counts .slots) (day .counts .choosers) (day .mins) (day .optional) sums (getD seeing choice 0) choice (day .counts .slots + 1)) where
+      before-end : choice < length p
+      before-end = lt-of-le-ne so-far m
+
+      on-visit : run first room (standing true turns met buffer) (hereOf day tables choice p sums fills domains)
+          ≡ run first room (standing true (turns - 1) met buffer) (leftOf day tables choice p sums fills seeing next)
+      unfolding bodyOf
+      on-visit =
+          let k : length p - choice ≡ suc (length p - (choice + 1)) = omega (arith, before-end) in
+          after-visit
+          ∙ ap (λ (i : ℕ). run first room (standing true (turns - 1) met buffer) (bodyOf day tables (take choice p) sums fills domains i)) k
+          ∙ ap (λ (d : List ℕ). run first room (standing true (turns - 1) met buffer) (leftOf day tables choice p sums fills d (day .counts .slots + 1))) (sym v)
+          ∙ ap (run first room (standing true (turns - 1) met buffer))
+          (sym
+          (ap (leftOf day tables choice p sums fills seeing) e
+          ∙ left-in day tables (length p - (choice + 1)) (take choice p) sums fills seeing (length-take-le choice p so-far) (day .counts .slots + 1)))
+
+      pub walked-none : next ≡ 0
+          → Walked first room choice (hereOf day tables choice p sums fills domains) p p sums sums fills fills (standing true turns met buffer) (standing true (turns - 1) met buffer)
+      unfolding eventsLeft run
+      walked-none z =
+          unmoved (sym (on-visit ∙ ap (λ (i : ℕ). run first room (standing true (turns - 1) met buffer) (leftOf day tables choice p sums fills seeing i)) z))
+
+      pub on-requires : (next ≡ 0 → ⊥) → Ready day first room (choice + 1) choice p sums fills (turns - 1) met buffer × Takes day choice next sums seeing
+      on-requires k = (
+        record {
+          shaped = l .shaped;
+          walks = walks-next (l .walks) (λ i. m (i ∙ l .shaped .mins-fit ∙ sym (l .shaped .plan-fits)));
+          filled = l .filled;
+          unfinished = l .unfinished;
+          numbers = omega (arith, l .numbers);
+        },
+        takes-next day choice (day .counts .slots + 1) sums seeing (omega arith) e k,
+      )
+
+      pub walked-on : {after : Standing} {p' sums' fills' : List ℕ}
+          → Walked first room choice (leftOf day tables choice p sums fills seeing next) p p' sums sums' fills fills' (standing true (turns - 1) met buffer) after
+          → Walked first room choice (hereOf day tables choice p sums fills domains) p p' sums sums' fills fills' (standing true turns met buffer) after
+      walked-on g =
+          record { stands = g .stands ∙ sym on-visit; start = g .start; same-sums = g .same-sums; same-fills = g .same-fills; same-plan = g .same-plan }
+
+      -- the same of a plan that is lent on the way
+      module _ {q : List ℕ} (s : q ≡ p) where
+        pub none-lent : next ≡ 0
+            → Walked first room choice (hereOf day tables choice p sums fills domains) p q sums sums fills fills (standing true turns met buffer) (standing true (turns - 1) met buffer)
+        none-lent z = rw s (walked-none z)
+
+        pub requires-lent : (next ≡ 0 → ⊥) → Ready day first room (choice + 1) choice q sums fills (turns - 1) met buffer × Takes day choice next sums seeing
+        requires-lent k = rw s (on-requires k)
+
+        pub on-lent : {after : Standing} {p' sums' fills' : List ℕ}
+            → Walked first room choice (leftOf day tables choice q sums fills seeing next) q p' sums sums' fills fills' (standing true (turns - 1) met buffer) after
             → Walked first room choice (hereOf day tables choice p sums fills domains) p p' sums sums' fills fills' (standing true turns met buffer) after
-        walked-on g =
-            record { stands = g .stands ∙ sym on-visit; start = g .start; same-sums = g .same-sums; same-fills = g .same-fills; same-plan = g .same-plan }
-
-        -- the same of a plan that is lent on the way
-        module _ {q : List ℕ} (s : q ≡ p) where
-          pub none-lent : next ≡ 0
-              → Walked first room choice (hereOf day tables choice p sums fills domains) p q sums sums fills fills (standing true turns met buffer) (standing true (turns - 1) met buffer)
-          none-lent z = rw s (walked-none z)
-
-          pub requires-lent : (next ≡ 0 → ⊥) → Ready day first room (choice + 1) choice q sums fills (turns - 1) met buffer × Takes day choice next sums seeing
-          requires-lent k = rw s (on-requires k)
-
-          pub on-lent : {after : Standing} {p' sums' fills' : List ℕ}
-              → Walked first room choice (leftOf day tables choice q sums fills seeing next) q p' sums sums' fills fills' (standing true (turns - 1) met buffer) after
-              → Walked first room choice (hereOf day tables choice p sums fills domains) p p' sums sums' fills fills' (standing true turns met buffer) after
-          on-lent g = walked-on (rw s at g)
+        on-lent g = walked-on (rw s at g)
 
   -- a choice has its place among 64
   pub choice-low : (choice ≡ length p → ⊥) → choice < 64
   choice-low m = omega (arith, lt-of-le-ne so-far m, l .shaped .few-choices, l .shaped .plan-fits)
 
--- the domains as they are seen: near the end those that are there
-pub seen-near : (day : Day) (tables p domains : List ℕ) (choice : ℕ) {b : Bool} → choice ≤ length p → length p ≡ day .counts .choices → b ≡ nearEnd (length p) choice → b ≡ true
-    → domains ≡ seen day tables (take choice p) domains
+-- of a plan the places before the choice are seen alone
+pub seen-here : (day : Day) (tables p fills domains : List ℕ) (choice : ℕ) {seeing : List ℕ} → choice ≤ length p
+    → seeing ≡ seenAt (day .counts) (day .mins) (day .maxs) (day .rows) tables p choice fills domains → seeing ≡ seen day tables (take choice p) fills domains
 unfolding seen
-seen-near day tables p domains choice h s e t =
-    let k : nearEnd (day .counts .choices) (length (take choice p)) ≡ true = rw (length-take-le choice p h, sym s) (sym e ∙ t) in
-    sym (rw k)
-
--- before it those that looking ahead leaves
-pub seen-ahead : (day : Day) (tables p domains : List ℕ) (choice : ℕ) {b : Bool} {seeing : List ℕ} → choice ≤ length p → length p ≡ day .counts .choices → b ≡ nearEnd (length p) choice → b ≡ false
-    → seeing ≡ lookedAhead (day .counts) (day .mins) (day .maxs) (day .rows) tables p choice domains → seeing ≡ seen day tables (take choice p) domains
-unfolding seen
-seen-ahead day tables p domains choice h s e f v =
-    let k : nearEnd (day .counts .choices) (length (take choice p)) ≡ false = rw (length-take-le choice p h, sym s) (sym e ∙ f) in
+seen-here day tables p fills domains choice h v =
     v
-    ∙ sym (looked-start (day .counts) (day .mins) (day .maxs) (day .rows) tables p choice domains h)
-    ∙ sym (rw (k, length-take-le choice p h))
+    ∙ sym (seen-start (day .counts) (day .mins) (day .maxs) (day .rows) tables p choice fills domains h)
+    ∙ sym (rw (length-take-le choice p h))
 
 -- ---- a place
 

@@ -1,15 +1,14 @@
 -- The eyes of the walk: what it carries along beside a start, and what it looks at.
-use mathlib.Core.Bool.{Bool, _&&_, cond}
+use mathlib.Core.Bool.{Bool, true, _&&_, cond}
 use mathlib.Core.List.{List, [], _∷_, _++_}
 use Prim.Native.Nat.{ℕ, zero, suc, _+_, _-_}
-use lib.Dec.{ltb, leb}
 use lib.ListN.{length, getD}
 use Rattle.choice_sets.specs.Sets.{has}
 use Rattle.scheduling.specs.Day.{Day}
 use Rattle.listing_nodes.specs.steps.Walk.{placeOf, placeFits, sumsWith}
 use Rattle.alive_starts.specs.Alive.{Event, Eyes, events}
 use Rattle.place_sets.specs.Domains.{placeNumber}
-use Rattle.look_ahead.specs.Look.{lookedAhead, isWorth}
+use Rattle.look_ahead.specs.Look.{seenAt}
 
 -- each slot's sum of minimums and of maximums, and the domains
 pub record Carried : Type 0 where
@@ -20,15 +19,10 @@ pub record Carried : Type 0 where
 abbrev pub carried : List ℕ → List ℕ → List ℕ → Carried
 carried sums fills domains = record { sums = sums; fills = fills; domains = domains }
 
--- with five choices left or fewer the walk looks ahead no more
-unfoldable pub nearEnd : ℕ → ℕ → Bool
-nearEnd choices choice = leb choices (choice + 5)
-
--- the domains at a start
-unfoldable pub seen : Day → List ℕ → List ℕ → List ℕ → List ℕ
-seen day tables start domains =
-    cond (nearEnd (day .counts .choices) (length start)) domains
-    (lookedAhead (day .counts) (day .mins) (day .maxs) (day .rows) tables start (length start) domains)
+-- the domains as they are seen at a start, the slots filled so far
+unfoldable pub seen : Day → List ℕ → List ℕ → List ℕ → List ℕ → List ℕ
+seen day tables start fills domains =
+    seenAt (day .counts) (day .mins) (day .maxs) (day .rows) tables start (length start) fills domains
 
 -- a choice may take a place: the minimums fit, and its domain has it
 unfoldable pub mayTake : ℕ → ℕ → List ℕ → List ℕ → List ℕ → ℕ → ℕ → ℕ → Bool
@@ -42,16 +36,16 @@ nextIn slots choosers mins optional sums domain choice (suc left) =
     cond (mayTake slots choosers mins optional sums domain choice (placeOf slots (slots - left))) (suc left)
     (nextIn slots choosers mins optional sums domain choice left)
 
--- the walk's eyes
+-- the walk's eyes: what isn't worth it is told by the places that are open, one step before
 unfoldable pub eyesOf : Day → List ℕ → Eyes Carried
 eyesOf day tables =
     record {
-      worth = λ start x. isWorth (day .counts) tables (length start) (x .fills);
-      opens = λ start x place. mayTake (day .counts .slots) (day .counts .choosers) (day .mins) (day .optional) (x .sums) (getD (seen day tables start (x .domains)) (length start) 0) (length start) place;
+      worth = λ start x. true;
+      opens = λ start x place. mayTake (day .counts .slots) (day .counts .choosers) (day .mins) (day .optional) (x .sums) (getD (seen day tables start (x .fills) (x .domains)) (length start) 0) (length start) place;
       next = λ start x place. carried
           (sumsWith (day .counts .slots) (day .mins) (x .sums) (length start) place)
           (sumsWith (day .counts .slots) (day .maxs) (x .fills) (length start) place)
-          (seen day tables start (x .domains));
+          (seen day tables start (x .fills) (x .domains));
     }
 
 module _ (day : Day) (tables : List ℕ) where

@@ -1,5 +1,4 @@
 -- The tables and the first domains are the day's, and the walk ends in a page of it.
-use native.Mathlib.Omega.{arith}
 use Rattle.plan_walk.proofs.PageTells.{walk-requires, page-answers}
 use borrow.Author.Needs.{needs}
 use Rattle.plan_walk.proofs.page.page_of_day.Statement.{statement}
@@ -12,9 +11,7 @@ fill-tables-requires : tie.Need-fill-tables-requires
 fill-tables-requires c κs = tt
 
 first-domains-requires : tie.Need-first-domains-requires
-first-domains-requires c κs =
-    let j = c .before .before .before .before .before .before .before .before .pre in
-    omega (arith, j .few-choices, j .optional-fits)
+first-domains-requires c κs = tt
 
 numbers-asked-requires : tie.Need-numbers-asked-requires
 numbers-asked-requires c κs = tt

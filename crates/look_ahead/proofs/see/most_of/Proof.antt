@@ -1,0 +1,26 @@
+-- Past the list there is no maximum.
+use Rattle.look_ahead.proofs.StepLaws.{most-past}
+use borrow.Author.Needs.{needs}
+use Rattle.look_ahead.proofs.see.most_of.Statement.{statement}
+use Rattle.look_ahead.proofs.see.most_of.Tie as tie
+use Rattle.look_ahead.proofs.see.most_of.Reads as reads
+use Rattle.look_ahead.proofs.see.most_of.Lts as lts
+
+-- src/see.rt:26:9
+returns : tie.Need-returns
+returns c = most-past (c .before .args .maxs .now) _ (c .if1 .taken)
+
+-- src/see.rt:28:5
+mul-result : tie.Need-mul-result
+mul-result c = search needs
+
+-- src/see.rt:28:5
+shared-slice-read-result : tie.Need-shared-slice-read-result
+shared-slice-read-result c = search needs
+
+-- src/see.rt:22:1
+returns-2 : tie.Need-returns-2
+returns-2 c = search needs
+
+pub most-of-spec : {M : Type 1} → statement M
+most-of-spec = tie.close (tie.spec returns mul-result shared-slice-read-result returns-2)
