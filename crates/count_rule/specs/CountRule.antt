@@ -71,7 +71,7 @@ countsLeave entry counts maxs rows domains =
     (λ choice domain. cond (has free choice) (countLeaves (counts .slots) least free domains (counts .choices) domain) domain)
     domains
 
--- the reduction's rows are in order, so that limits stand last: without one the tables have said it all
+-- the reduction's rows are in order, so that limits stand last: without one the table of ones says as much by its own figures
 unfoldable pub endsInLimit : List ℕ → Bool
 endsInLimit rows = eqb (rowOf (getD rows (length rows - 1) 0) .kind) 6
 

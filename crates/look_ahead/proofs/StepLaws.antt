@@ -127,10 +127,6 @@ module _ (choices choice : ℕ) where
       go true t = sym (le-leb choices (choice + 7) (omega (arith, leb-true (choices - choice) 7 t, h)))
       go false t = sym (lt-leb choices (choice + 7) (omega (arith, leb-false (choices - choice) 7 t, h)))
 
--- past the list there is no maximum
-pub most-past : (maxs : List ℕ) (choice : ℕ) → length maxs ≤ choice → 0 ≡ getD maxs choice 0
-most-past maxs choice h = sym (List·getD-eq-default maxs 0 h)
-
 module _ (counts : Counts) (maxs tables : List ℕ) (choice : ℕ) (fills domains : List ℕ) where
   -- no choice past 63 has a domain
   pub enough-past : 64 ≤ choice → domains ≡ enoughAt counts maxs tables choice fills domains

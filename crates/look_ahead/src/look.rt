@@ -12,7 +12,7 @@ ghost use mathlib.Core.Path.{_≡_};
 ghost use Rattle.listing_nodes.specs.steps.Walk.{countsOf};
 ghost use Rattle.look_ahead.specs.Look.{lookedAhead};
 
-// The domains once the choice before this one is decided: every rule takes away what it leaves to no plan. Most dead starts are told by tables and counts.
+// The domains once the choice before this one is decided: every rule takes away what it leaves to no plan. A start that tables or counts show to be dead is given up before slots and rows.
 pub fn look_ahead(
     asked: &[usize; 6],
     mins: &[u16],

@@ -8,7 +8,7 @@ ghost use lib.ListN.{getD};
 ghost use Rattle.listing_nodes.specs.steps.Walk.{countsOf};
 ghost use Rattle.look_ahead.specs.Look.{nearEnd, enoughAt, seenAt};
 
-// With seven choices left or fewer the walk looks ahead no more: there a look costs more than it spares.
+// With seven choices left or fewer the walk looks ahead no more.
 fn near_end(choices: usize, choice: usize) -> bool
     ensures { λ r. ⌜ r ≡ nearEnd choices choice ⌝ }
 {

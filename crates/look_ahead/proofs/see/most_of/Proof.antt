@@ -1,5 +1,5 @@
 -- Past the list there is no maximum.
-use Rattle.look_ahead.proofs.StepLaws.{most-past}
+use Rattle.place_sets.proofs.DomainLaws.{past-none}
 use borrow.Author.Needs.{needs}
 use Rattle.look_ahead.proofs.see.most_of.Statement.{statement}
 use Rattle.look_ahead.proofs.see.most_of.Tie as tie
@@ -8,7 +8,7 @@ use Rattle.look_ahead.proofs.see.most_of.Lts as lts
 
 -- src/see.rt:26:9
 returns : tie.Need-returns
-returns c = most-past (c .before .args .maxs .now) _ (c .if1 .taken)
+returns c = past-none (c .before .args .maxs .now) _ (c .if1 .taken)
 
 -- src/see.rt:28:5
 mul-result : tie.Need-mul-result
