@@ -27,10 +27,10 @@ use Rattle.scheduling.specs.Feasible.{feasible}
 use Rattle.scheduling.proofs.Meaning.{Feasible, Placed, feasible-means}
 use Rattle.plan_rows.proofs.PlanLaws.{stands-omitted}
 use Rattle.plan_rows.proofs.RowLaws.{op-eq, op-neq, op-gt, op-geq, keeps-limited-size}
-use Rattle.weight_tables.specs.Weights.{weightOf, least, leastOf, sumFrom}
-use Rattle.weight_tables.specs.Tables.{tablesFit, Filled, entryAt, written}
+use Rattle.weight_tables.specs.Weights.{least, leastOf, sumFrom}
+use Rattle.weight_tables.specs.Tables.{tablesFit, Filled, entryAt, weightAt, written}
 use Rattle.weight_tables.proofs.WeightLaws.{sum-join, from-ext, from-le, below-le, below-add, below-zeros, least-weighs, slots-weigh}
-use Rattle.weight_tables.proofs.TableLaws.{weight-one, written-in, written-length, entry-least}
+use Rattle.weight_tables.proofs.TableLaws.{written-in, written-length, entry-least}
 use Rattle.weight_tables.proofs.EnoughLaws.{stands-only}
 use Rattle.place_sets.specs.Domains.{placeNumber, Within, settled, bothPlaces, eachBelow}
 use Rattle.place_sets.proofs.DomainLaws.{number-in, number-le, number-stands, settled-one, both-stays, each-length, each-within, within-at}
@@ -167,19 +167,19 @@ module _ (day : Day) (plan : List ℕ) (feasibly : feasible day plan ≡ true) (
       let z : sumBelow from b ≡ 0 = sum-ext from b (λ k. 0) (λ k hk. rw (before k hk) (none-stands (standsIn plan k slot))) ∙ below-zeros from in
       omega (arith, h, p, q, s, j, z)
 
-  -- the free choices in a slot are no fewer than fill its lack
-  lack-counts : (slot : ℕ) → slot < day .counts .slots
-      → leastOf (day .counts) (day .maxs) 0 from (lackOf (day .counts .choices) (day .counts .choosers) (day .maxs) free domains slot) ≤ standing slot
+  -- the free choices in a slot are no fewer than fill its lack, by whatever weights of at most 1
+  lack-counts : (weight : ℕ → ℕ → ℕ) → ((choice : ℕ) → weight 0 choice ≤ 1) → (slot : ℕ) → slot < day .counts .slots
+      → leastOf weight (day .counts) (day .maxs) 0 from (lackOf (day .counts .choices) (day .counts .choosers) (day .maxs) free domains slot) ≤ standing slot
   unfolding leastOf
-  lack-counts slot hs =
+  lack-counts weight one slot hs =
       let count : ℕ = day .counts .choices - from in
-      let w : ℕ → ℕ = λ choice. weightOf (day .counts .choosers) 0 (getD (day .maxs) choice 0) in
+      let w : ℕ → ℕ = weight 0 in
       let a = least-weighs w (λ choice. getD (day .maxs) choice 0) (λ choice. has free choice && standsIn plan choice slot) from count
       (lackOf (day .counts .choices) (day .counts .choosers) (day .maxs) free domains slot)
       (lack-fills day plan feasibly len free from domains within before inside slot hs) in
       let b = from-le from count (λ choice. cond (has free choice && standsIn plan choice slot) (w choice) 0)
       (λ choice. cond (standsIn plan choice slot) (cond (has free choice) 1 0) 0)
-      (λ k lo hi. weigh-le (has free k) (standsIn plan k slot) (w k) (weight-one (day .counts .choosers) (getD (day .maxs) k 0))) in
+      (λ k lo hi. weigh-le (has free k) (standsIn plan k slot) (w k) (one k)) in
       omega (arith, a, b)
 
   -- the free choices from the first on are all of them
@@ -275,15 +275,15 @@ module _ (day : Day) (plan : List ℕ) (feasibly : feasible day plan ≡ true) (
             (kept (eqb-true _ _ u) ((feasible-means day plan feasibly) .places i (omega (arith, len))))
 
   -- the least counts are such counts
-  module _ (entry : ℕ → ℕ → ℕ → ℕ) (lacks : List ℕ) (least-entry : (lack : ℕ) → lack ≤ day .counts .choosers → entry 0 from lack ≡ leastOf (day .counts) (day .maxs) 0 from lack)
+  module _ (entry : ℕ → ℕ → ℕ → ℕ) (weight : ℕ → ℕ → ℕ) (one : (choice : ℕ) → weight 0 choice ≤ 1) (lacks : List ℕ) (least-entry : (lack : ℕ) → lack ≤ day .counts .choosers → entry 0 from lack ≡ leastOf weight (day .counts) (day .maxs) 0 from lack)
       (lacks-are : (slot : ℕ) → slot < day .counts .slots → getD lacks slot 0 ≡ lackOf (day .counts .choices) (day .counts .choosers) (day .maxs) free domains slot) where
     sums-under : (slot : ℕ) → slot < day .counts .slots → countOf entry (day .counts .choices) free from lacks domains slot ≤ countIn plan slot
     unfolding countOf lackOf
     sums-under slot hs =
         let h : getD lacks slot 0 ≤ day .counts .choosers = rw (lacks-are slot hs) (omega arith) in
-        let e : entry 0 from (getD lacks slot 0) ≡ leastOf (day .counts) (day .maxs) 0 from (lackOf (day .counts .choices) (day .counts .choosers) (day .maxs) free domains slot) =
-        least-entry (getD lacks slot 0) h ∙ ap (λ (x : ℕ). leastOf (day .counts) (day .maxs) 0 from x) (lacks-are slot hs) in
-        omega (arith, e, lack-counts slot hs, count-is slot hs)
+        let e : entry 0 from (getD lacks slot 0) ≡ leastOf weight (day .counts) (day .maxs) 0 from (lackOf (day .counts .choices) (day .counts .choosers) (day .maxs) free domains slot) =
+        least-entry (getD lacks slot 0) h ∙ ap (λ (x : ℕ). leastOf weight (day .counts) (day .maxs) 0 from x) (lacks-are slot hs) in
+        omega (arith, e, lack-counts weight one slot hs, count-is slot hs)
 
     pub least-under : (slot : ℕ) → slot < day .counts .slots → getD (leastCounts entry (day .counts) (day .rows) free from lacks domains) slot 0 ≤ countIn plan slot
     unfolding leastCounts
@@ -364,7 +364,7 @@ counts-within day plan tables domains f n filled l w = go (tablesFit (day .count
         let free : ℕ = freeOf (day .counts .choices) domains in
         let from : ℕ = firstIn (day .counts .choices) free in
         leave-within day plan f n free from domains w (first-none (day .counts .choices) free) (first-le (day .counts .choices) free)
-        (free-settles (day .counts .choices) domains) (free-size (day .counts .choices) domains c) few (entryAt tables)
+        (free-settles (day .counts .choices) domains) (free-size (day .counts .choices) domains c) few (entryAt tables) (weightAt tables) (filled .ones)
         (lacksOf (day .counts .slots) (day .counts .choices) (day .counts .choosers) (day .maxs) free domains)
         (λ lack hl. entry-least (day .counts) (day .maxs) tables filled c h 0 from lack (omega arith) (first-le (day .counts .choices) free) hl)
         (lacks-at (day .counts .slots) (day .counts .choices) (day .counts .choosers) (day .maxs) free domains few)

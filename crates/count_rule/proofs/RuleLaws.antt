@@ -6,7 +6,7 @@ use Prim.Native.Nat.{ℕ, zero, suc, _+_, _-_, _≤_, _<_}
 use native.Mathlib.Omega.{arith}
 use borrow.Author.Tests.{lt-ltb, le-ltb, ltb-true, ltb-false, le-leb, lt-leb, eq-eqb, ne-eqb}
 use lib.Dec.{eqb, ltb, leb}
-use lib.ListN.{length, getD, set, replicate, length-replicate}
+use lib.ListN.{length, getD, set, replicate}
 use lib.Seq.{set-getD}
 use Rattle.lists.specs.Below.{sumBelow}
 use Rattle.lists.proofs.SumBelow.{sum-ext}
@@ -14,12 +14,13 @@ use Rattle.constraint.specs.declared.check.Counts.{Counts}
 use Rattle.choice_sets.specs.Sets.{has, setOf, sizeOf}
 use Rattle.choice_sets.proofs.SetLaws.{has-past, set-ext, set-none, set-wider}
 use Rattle.weight_tables.specs.Tables.{tablesFit, written}
-use Rattle.weight_tables.proofs.TableLaws.{written-in}
 use Rattle.place_sets.specs.Domains.{bothPlaces, eachBelow}
 use Rattle.table_rule.specs.Figures.{freeOf, firstIn, lacksOf, lacksIn}
 use Rattle.table_rule.proofs.FigureLaws.{lacks-in}
+use Rattle.table_rule.proofs.SettledLaws.{written-ext}
 use Rattle.count_rule.specs.CountRule.{rowsRaise, settledCount, countOf, leastCounts, wanted, countLeaves, countsLeave, endsInLimit, countsRule}
-use Rattle.count_rule.specs.steps.Figures.{lackIn, keepsOf, leastLeaves}
+use Rattle.count_rule.specs.steps.Figures.{fewestIn, lackIn, keepsOf, leastLeaves}
+use Rattle.count_rule.proofs.StepLaws.{settled-at}
 
 -- ---- every domain
 
@@ -121,15 +122,6 @@ module _ (slots choices free : ℕ) (least settled domains : List ℕ)
           many (ltb (sizeOf free) (sumBelow slots (lackIn least settled)))
           (omega (arith, ltb-false (sumBelow slots (lackIn least settled)) (sizeOf free) t, need-is)) refl
 
--- a slot's settled choices stand at its place
-pub settled-at : (slots choices free : ℕ) (domains : List ℕ) → slots ≤ 24 → (slot : ℕ) → slot < slots
-    → getD (written slots 0 (settledCount choices free domains) (replicate 24 0)) slot 0 ≡ settledCount choices free domains slot
-settled-at slots choices free domains few slot hs =
-    let f : ℕ → ℕ = settledCount choices free domains in
-    let z : slot ≡ 0 + slot = omega arith in
-    let n : length (replicate {A = ℕ} 24 0) ≡ 24 = length-replicate {A = ℕ} 24 0 in
-    ap (λ (x : ℕ). getD (written slots 0 f (replicate 24 0)) x 0) z ∙ written-in 0 f (replicate 24 0) slots slot (omega (arith, n)) hs
-
 module _ (entry : ℕ → ℕ → ℕ → ℕ) where
   -- the rule by any figures
   abbrev by : Counts → List ℕ → List ℕ → ℕ → ℕ → List ℕ → List ℕ
@@ -138,26 +130,33 @@ module _ (entry : ℕ → ℕ → ℕ → ℕ) where
       (λ choice domain. cond (has free choice) (countLeaves (counts .slots) (leastCounts entry counts rows free from lacks domains) free domains (counts .choices) domain) domain)
       domains
 
-  pub leave-are : (counts : Counts) (maxs rows domains : List ℕ) (free from : ℕ) (lacks none none' settled least raised after : List ℕ)
+  -- the fewest by the code's counts
+  fewest-is : (slots choices free from : ℕ) (lacks settled domains : List ℕ) → slots ≤ 24
+      → settled ≡ written slots 0 (settledCount choices free domains) (replicate 24 0)
+      → written slots 0 (fewestIn entry from lacks settled) (replicate 24 0) ≡ written slots 0 (countOf entry choices free from lacks domains) (replicate 24 0)
+  unfolding fewestIn countOf
+  fewest-is slots choices free from lacks settled domains few s =
+      written-ext slots _ _ (replicate 24 0) λ slot h.
+      ap (λ (x : ℕ). x + entry 0 from (getD lacks slot 0)) (ap (λ (x : List ℕ). getD x slot 0) s ∙ settled-at slots choices free domains few slot h)
+
+  pub leave-are : (counts : Counts) (maxs rows domains : List ℕ) (free from : ℕ) (lacks settled least raised after : List ℕ)
       → counts .choices ≤ 64 → counts .slots ≤ 24 → length maxs ≡ counts .choices
-      → free ≡ cond (leb (counts .choices) 64) (freeOf (counts .choices) domains) 0 → from ≡ firstIn (counts .choices) free → lacks ≡ lacksIn counts maxs free domains
-      → none ≡ replicate 24 0 → none' ≡ replicate 24 0
-      → settled ≡ written (counts .slots) 0 (settledCount (counts .choices) free domains) none
-      → least ≡ written (counts .slots) 0 (countOf entry (counts .choices) free from lacks domains) none'
+      → free ≡ cond (leb (counts .choices) 64) (freeOf (counts .choices) domains) 0 → from ≡ firstIn (counts .choices) free → lacks ≡ lacksIn counts maxs domains
+      → settled ≡ written (counts .slots) 0 (settledCount (counts .choices) (freeOf (counts .choices) domains) domains) (replicate 24 0)
+      → least ≡ written (counts .slots) 0 (fewestIn entry from lacks settled) (replicate 24 0)
       → raised ≡ rowsRaise rows least → after ≡ leastLeaves (counts .slots) (counts .choices) free raised settled domains
       → after ≡ countsLeave entry counts maxs rows domains
   unfolding countsLeave leastCounts
-  leave-are counts maxs rows domains free from lacks none none' settled least raised after c few n f g k z z' s l r a =
+  leave-are counts maxs rows domains free from lacks settled least raised after c few n f g k s l r a =
       let free' : ℕ = freeOf (counts .choices) domains in
       let from' : ℕ = firstIn (counts .choices) free' in
       let f' : free ≡ free' = f ∙ ap (λ (b : Bool). cond b free' 0) (le-leb (counts .choices) 64 c) in
       let g' : from ≡ from' = g ∙ ap (λ (x : ℕ). firstIn (counts .choices) x) f' in
-      let k' : lacks ≡ lacksOf (counts .slots) (counts .choices) (counts .choosers) maxs free' domains =
-      k ∙ lacks-in counts maxs free domains c n few ∙ ap (λ (x : ℕ). lacksOf (counts .slots) (counts .choices) (counts .choosers) maxs x domains) f' in
+      let k' : lacks ≡ lacksOf (counts .slots) (counts .choices) (counts .choosers) maxs free' domains = k ∙ lacks-in counts maxs domains c n few in
       let s' : settled ≡ written (counts .slots) 0 (settledCount (counts .choices) free domains) (replicate 24 0) =
-      s ∙ ap (λ (x : List ℕ). written (counts .slots) 0 (settledCount (counts .choices) free domains) x) z in
+      s ∙ ap (λ (x : ℕ). written (counts .slots) 0 (settledCount (counts .choices) x domains) (replicate 24 0)) (sym f') in
       let r' : raised ≡ leastCounts entry counts rows free from lacks domains =
-      r ∙ ap (λ (x : List ℕ). rowsRaise rows x) (l ∙ ap (λ (x : List ℕ). written (counts .slots) 0 (countOf entry (counts .choices) free from lacks domains) x) z') in
+      r ∙ ap (λ (x : List ℕ). rowsRaise rows x) (l ∙ fewest-is (counts .slots) (counts .choices) free from lacks settled domains few s') in
       a ∙ ap₂ (λ (x y : List ℕ). leastLeaves (counts .slots) (counts .choices) free x y domains) r' s'
       ∙ leaves-are (counts .slots) (counts .choices) free (leastCounts entry counts rows free from lacks domains)
       (written (counts .slots) 0 (settledCount (counts .choices) free domains) (replicate 24 0)) domains (settled-at (counts .slots) (counts .choices) free domains few)

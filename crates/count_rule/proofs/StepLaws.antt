@@ -1,16 +1,17 @@
 -- Each way through the code, over plain variables.
 use mathlib.Core.Path.{_≡_, refl, sym, _∙_, ap, ap₂}
-use mathlib.Core.Bool.{Bool, true, false, _&&_, not, cond}
+use mathlib.Core.Bool.{Bool, true, false, cond}
 use mathlib.Core.List.{List, [], _∷_}
 use Prim.Native.Nat.{ℕ, zero, suc, _+_, _-_, _≤_, _<_, max}
+use native.Mathlib.Nat.{add-zero}
 use native.Mathlib.Numerals.{add-one}
 use native.Mathlib.Omega.{arith}
 use borrow.Author.Tests.{lt-ltb, le-ltb, eq-eqb, ne-eqb}
 use lib.Dec.{eqb, ltb}
-use lib.ListN.{length, getD, set, drop, drop-of-length-le}
-use lib.Seq.{getD-set-other}
+use lib.ListN.{length, getD, set, drop, replicate, length-replicate, getD-replicate, drop-of-length-le}
+use lib.Seq.{getD-set-other, set-getD}
 use Rattle.lists.specs.Below.{one, countBelow, sumBelow}
-use Rattle.lists.proofs.Below.{count-more, sum-more}
+use Rattle.lists.proofs.Below.{sum-more}
 use Rattle.lists.proofs.CountBelow.{count-le}
 use Rattle.lists.proofs.Keep.{drop-at-place}
 use Rattle.constraint.specs.Op.{eqOp, gtOp, geqOp, neqOp}
@@ -19,55 +20,88 @@ use Rattle.constraint.specs.declared.row.Row.{Row}
 use Rattle.choice_sets.specs.Sets.{has, setOf, sizeOf, withChoice}
 use Rattle.choice_sets.proofs.SetLaws.{set-none}
 use Rattle.weight_tables.specs.Tables.{written}
-use Rattle.weight_tables.proofs.TableLaws.{written-more}
+use Rattle.weight_tables.proofs.TableLaws.{written-in, written-more}
 use Rattle.place_sets.specs.Domains.{bothPlaces, eachBelow}
-use Rattle.table_rule.specs.Figures.{settledIn}
+use Rattle.table_rule.specs.Figures.{freeOf, settledIn}
+use Rattle.table_rule.specs.steps.Settled.{changedBy}
 use Rattle.table_rule.proofs.FigureLaws.{set-step}
-use Rattle.count_rule.specs.CountRule.{raisedBy, rowRaises, rowsRaise, settledCount, countOf, endsInLimit}
-use Rattle.count_rule.specs.steps.Figures.{lackIn, keepsOf, leastLeaves}
+use Rattle.table_rule.proofs.SettledLaws.{change-one}
+use Rattle.count_rule.specs.CountRule.{raisedBy, rowRaises, rowsRaise, settledCount, endsInLimit}
+use Rattle.count_rule.specs.steps.Figures.{fewestIn, lackIn, keepsOf, leastLeaves}
 
--- ---- the settled choices of a slot
+-- ---- the settled choices of each slot
 
-module _ (free stands : Bool) where
-  pub one-free : free ≡ true → 0 ≡ one (not free && stands)
-  unfolding one
-  one-free t = rw t
+module _ (free : ℕ) (domains : List ℕ) where
+  settled-none : (slot : ℕ) → settledCount 0 free domains slot ≡ 0
+  unfolding settledCount countBelow
+  settled-none slot = refl
 
-  pub one-stands : free ≡ false → stands ≡ true → 1 ≡ one (not free && stands)
-  unfolding one
-  one-stands f t = rw (f, t)
-
-  pub one-elsewhere : free ≡ false → stands ≡ false → 0 ≡ one (not free && stands)
-  unfolding one
-  one-elsewhere f t = rw (f, t)
-
-pub settled-start : (free : ℕ) (domains : List ℕ) (slot : ℕ) → 0 ≡ settledCount 0 free domains slot
-unfolding settledCount countBelow
-settled-start free domains slot = refl
-
-pub settled-step : (free : ℕ) (domains : List ℕ) (slot n count part : ℕ) (f d : Bool) → count ≡ settledCount n free domains slot
-    → f ≡ has free n → d ≡ has (getD domains n 0) slot → part ≡ one (not f && d) → count + part ≡ settledCount (n + 1) free domains slot
-unfolding settledCount settledIn
-settled-step free domains slot n count part f d c a b p =
-    ap₂ (λ (x y : ℕ). x + y) c (p ∙ ap₂ (λ (x y : Bool). one (not x && y)) a b)
-    ∙ sym (count-more (λ choice. not (has free choice) && has (getD domains choice 0) slot) n)
+  -- with one choice more
+  settled-next : (choice slot : ℕ) → settledCount (suc choice) free domains slot
+      ≡ cond (settledIn free domains slot choice) (settledCount choice free domains slot + 1) (settledCount choice free domains slot)
+  unfolding settledCount countBelow one
+  settled-next choice slot = go (settledIn free domains slot choice) (settledCount choice free domains slot)
+    where
+      go : (b : Bool) (count : ℕ) → count + one b ≡ cond b (count + 1) count
+      go true count = refl
+      go false count = add-zero count
 
 pub settled-le : (n free : ℕ) (domains : List ℕ) (slot : ℕ) → settledCount n free domains slot ≤ n
 unfolding settledCount
 settled-le n free domains slot = count-le n (settledIn free domains slot)
 
--- ---- the two arrays, one slot more
+-- a slot's settled choices stand at its place
+pub settled-at : (slots choices free : ℕ) (domains : List ℕ) → slots ≤ 24 → (slot : ℕ) → slot < slots
+    → getD (written slots 0 (settledCount choices free domains) (replicate 24 0)) slot 0 ≡ settledCount choices free domains slot
+settled-at slots choices free domains few slot hs =
+    let f : ℕ → ℕ = settledCount choices free domains in
+    let z : slot ≡ 0 + slot = omega arith in
+    let n : length (replicate {A = ℕ} 24 0) ≡ 24 = length-replicate {A = ℕ} 24 0 in
+    ap (λ (x : ℕ). getD (written slots 0 f (replicate 24 0)) x 0) z ∙ written-in 0 f (replicate 24 0) slots slot (omega (arith, n)) hs
+
+-- nothing written
+written-none : (n : ℕ) (f : ℕ → ℕ) → n ≤ 24 → ((s : ℕ) → f s ≡ 0) → written n 0 f (replicate 24 0) ≡ replicate 24 0
+unfolding written
+written-none zero f h e = refl
+written-none (suc n) f h e =
+    let z : getD {A = ℕ} (replicate 24 0) (0 + n) 0 ≡ 0 = getD-replicate {A = ℕ} 24 (0 + n) 0 0 (omega arith) in
+    ap₂ (λ (l : List ℕ) (x : ℕ). set l (0 + n) x) (written-none n f (omega arith) e) (e n ∙ sym z) ∙ set-getD (replicate 24 0) (0 + n) 0
+
+-- the counts by the choices passed
+module _ (slots choices : ℕ) (domains : List ℕ) (few : slots ≤ 24) where
+  abbrev pub countsAfter : ℕ → List ℕ
+  countsAfter n = written slots 0 (settledCount n (freeOf choices domains) domains) (replicate 24 0)
+
+  pub counts-start : (none : List ℕ) → none ≡ replicate 24 0 → none ≡ countsAfter 0
+  counts-start none e = e ∙ sym (written-none slots (settledCount 0 (freeOf choices domains) domains) few (settled-none (freeOf choices domains) domains))
+
+  pub counts-step : (n : ℕ) (settled after : List ℕ) → n < choices → settled ≡ countsAfter n
+      → after ≡ changedBy slots (λ count. count + 1) (getD domains n 0) settled → after ≡ countsAfter (n + 1)
+  counts-step n settled after h s a =
+      let free : ℕ = freeOf choices domains in
+      let size : length (replicate {A = ℕ} 24 0) ≡ 24 = length-replicate {A = ℕ} 24 0 in
+      a ∙ ap (λ (x : List ℕ). changedBy slots (λ count. count + 1) (getD domains n 0) x) s
+      ∙ change-one slots choices domains (replicate 24 0) (omega (arith, few)) (omega (arith, few, size)) n (λ count. count + 1)
+      (settledCount n free domains) (settledCount (suc n) free domains) h (settled-next free domains n)
+      ∙ ap countsAfter (sym (add-one n))
+
+  pub counts-few : (n : ℕ) (settled : List ℕ) → n ≤ 64 → settled ≡ countsAfter n → (slot : ℕ) → slot < slots → getD settled slot 0 ≤ 64
+  counts-few n settled h s slot l =
+      let e : getD settled slot 0 ≡ settledCount n (freeOf choices domains) domains slot =
+      ap (λ (x : List ℕ). getD x slot 0) s ∙ settled-at slots n (freeOf choices domains) domains few slot l in
+      omega (arith, e, settled-le n (freeOf choices domains) domains slot)
+
+-- ---- the least counts, one slot more
+
+pub fewest-in : (entry : ℕ → ℕ → ℕ → ℕ) (from : ℕ) (lacks settled : List ℕ) (slot more word : ℕ)
+    → more ≡ entry 0 from (getD lacks slot 0) → word ≡ more → getD settled slot 0 + word ≡ fewestIn entry from lacks settled slot
+unfolding fewestIn
+fewest-in entry from lacks settled slot more word m w = ap (λ (x : ℕ). getD settled slot 0 + x) (w ∙ m)
 
 pub written-step : (f : ℕ → ℕ) (slot v : ℕ) (first array : List ℕ) → array ≡ written slot 0 f first → v ≡ f slot → set array slot v ≡ written (slot + 1) 0 f first
 written-step f slot v first array a e =
     let z : slot ≡ 0 + slot = omega arith in
     ap₂ (λ (l : List ℕ) (x : ℕ). set l slot x) a e ∙ ap (λ (x : ℕ). set (written slot 0 f first) x (f slot)) z ∙ written-more 0 f first slot
-
-pub count-is : (entry : ℕ → ℕ → ℕ → ℕ) (choices free from : ℕ) (lacks domains : List ℕ) (slot count part v : ℕ)
-    → count ≡ settledCount choices free domains slot → part ≡ entry 0 from (getD lacks slot 0) → v ≡ count + part
-    → v ≡ countOf entry choices free from lacks domains slot
-unfolding countOf
-count-is entry choices free from lacks domains slot count part v c p e = e ∙ ap₂ (λ (x y : ℕ). x + y) c p
 
 -- ---- the limits
 

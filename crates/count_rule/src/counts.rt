@@ -1,76 +1,77 @@
 // How many settled choices stand in each slot, and how many choices it has at least by its sums.
-use choice_sets::set::member;
+use place_sets::places::is_settled;
+use place_sets::places::lowest_place;
 use weight_tables::entry::least_at;
 ghost use mathlib.Core.Path.{_≡_};
-ghost use mathlib.Core.Bool.{_&&_, not};
-ghost use Prim.Native.Nat.{_+_, _-_, _*_, _≤_, _<_};
-ghost use lib.ListN.{length, getD, replicate};
-ghost use Rattle.lists.specs.Below.{one};
+ghost use Prim.Native.Nat.{ℕ, _+_, _≤_, _<_};
+ghost use lib.ListN.{getD, replicate};
 ghost use Rattle.weight_tables.specs.Tables.{entryAt, written};
-ghost use Rattle.count_rule.specs.CountRule.{settledCount, countOf};
-
-// 1 for a choice that isn't free and may stand in the slot.
-fn settled_one(free: bool, stands: bool) -> usize
-    ensures { λ r. ⌜ (r ≡ one (not free && stands)) × (r ≤ 1) ⌝ }
-{
-    if free {
-        return 0;
-    }
-    if stands {
-        return 1;
-    }
-    0
-}
-
-// How many settled choices stand in a slot.
-fn settled_count(choices: usize, free: u64, domains: &[u64; 64], slot: usize) -> usize
-    requires { ⌜ choices ≤ 64 ⌝ }
-    ensures { λ r. ⌜ (r ≡ settledCount choices free (now (domains .entry)) slot) × (r ≤ 64) ⌝ }
-{
-    let mut count = 0;
-    let mut choice = 0;
-    while choice < choices {
-        count += settled_one(member(free, choice), member(domains[choice], slot));
-        choice += 1;
-    }
-    count
-}
+ghost use Rattle.table_rule.specs.Figures.{freeOf};
+ghost use Rattle.table_rule.specs.steps.Settled.{changedBy};
+ghost use Rattle.count_rule.specs.CountRule.{settledCount};
+ghost use Rattle.count_rule.specs.steps.Figures.{fewestIn};
 
 // A count for each of the slots that a day may have, all 0.
-pub(crate) fn no_counts() -> [u32; 24]
+fn no_counts() -> [u32; 24]
     ensures { λ r. ⌜ r ≡ replicate 24 0 ⌝ }
 {
     [0u32; 24]
 }
 
+// A settled choice is one more in its one place, if that is one of the slots.
+fn count_one(slots: usize, domain: u64, settled: &mut [u32; 24])
+    requires { ⌜ (slots ≤ 24) × ((slot : ℕ) → slot < slots → getD (now settled) slot 0 ≤ 64) ⌝ }
+    ensures { λ r. ⌜ now (settled .exit) ≡ changedBy slots (λ count. count + 1) domain (now (settled .entry)) ⌝ }
+{
+    if !is_settled(domain) {
+        return;
+    }
+    let slot = lowest_place(domain);
+    if slots <= slot {
+        return;
+    }
+    settled[slot] += 1;
+}
+
+// How many settled choices stand in each slot.
+pub(crate) fn settled_counts(slots: usize, choices: usize, domains: &[u64; 64]) -> [u32; 24]
+    requires { ⌜ (slots ≤ 24) × (choices ≤ 64) ⌝ }
+    ensures { λ r. ⌜ (r ≡ written slots 0 (settledCount choices (freeOf choices (now (domains .entry))) (now (domains .entry))) (replicate 24 0)) × ((slot : ℕ) → slot < slots → getD r slot 0 ≤ 64) ⌝ }
+{
+    let mut settled = no_counts();
+    let mut choice = 0;
+    while choice < choices {
+        count_one(slots, domains[choice], &mut settled);
+        choice += 1;
+    }
+    settled
+}
+
 // A count as the arrays hold it.
 fn word_of(count: usize) -> u32
-    requires { ⌜ count ≤ 65599 ⌝ }
+    requires { ⌜ count ≤ 65535 ⌝ }
     ensures { λ r. ⌜ r ≡ count ⌝ }
 {
     count as u32
 }
 
-// Each slot's settled choices, and with them the fewest that fill its lack.
-pub(crate) fn fill_counts(
+// Each slot's settled choices with the fewest that fill its lack.
+pub(crate) fn least_counts(
     slots: usize,
-    choices: usize,
-    free: u64,
     from: usize,
     lacks: &[usize; 24],
-    tables: &[u16; 65325],
-    domains: &[u64; 64],
-    settled: &mut [u32; 24],
-    least: &mut [u32; 24],
-)
-    requires { ⌜ (slots ≤ 24) × (choices ≤ 64) ⌝ }
-    ensures { λ r. ⌜ (now (settled .exit) ≡ written slots 0 (settledCount choices free (now (domains .entry))) (now (settled .entry))) × (now (least .exit) ≡ written slots 0 (countOf (entryAt (now (tables .entry))) choices free from (now (lacks .entry)) (now (domains .entry))) (now (least .entry))) ⌝ }
+    tables: &[u16; 52516],
+    settled: &[u32; 24],
+) -> [u32; 24]
+    requires { ⌜ (slots ≤ 24) × ((slot : ℕ) → slot < slots → getD (now settled) slot 0 ≤ 64) ⌝ }
+    ensures { λ r. ⌜ r ≡ written slots 0 (fewestIn (entryAt (now (tables .entry))) from (now (lacks .entry)) (now (settled .entry))) (replicate 24 0) ⌝ }
 {
+    let mut least = no_counts();
     let mut slot = 0;
     while slot < slots {
-        let count = settled_count(choices, free, domains, slot);
-        settled[slot] = word_of(count);
-        least[slot] = word_of(count + least_at(tables, 0, from, lacks[slot]));
+        let more = least_at(tables, 0, from, lacks[slot]);
+        least[slot] = settled[slot] + word_of(more);
         slot += 1;
     }
+    least
 }

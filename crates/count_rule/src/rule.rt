@@ -1,6 +1,6 @@
 // What is left of the free choices' domains: the free choices that the slots need are different ones.
-use super::counts::fill_counts;
-use super::counts::no_counts;
+use super::counts::least_counts;
+use super::counts::settled_counts;
 use super::raises::ends_in_limit;
 use super::raises::raise_by_rows;
 use choice_sets::set::member;
@@ -123,7 +123,7 @@ fn narrow_fitting(
     counts: Counts,
     maxs: &[u16],
     rows: &[u64],
-    tables: &[u16; 65325],
+    tables: &[u16; 52516],
     domains: &mut [u64; 64],
 )
     requires { ⌜ ((counts .choices ≤ 64) × (counts .slots ≤ 24)) × (length (now maxs) ≡ counts .choices) ⌝ }
@@ -131,20 +131,9 @@ fn narrow_fitting(
 {
     let free = free_of(counts.choices, domains);
     let from = first_in(counts.choices, free);
-    let lacks = lacks_of(counts, maxs, free, domains);
-    let mut settled = no_counts();
-    let mut least = no_counts();
-    fill_counts(
-        counts.slots,
-        counts.choices,
-        free,
-        from,
-        &lacks,
-        tables,
-        domains,
-        &mut settled,
-        &mut least,
-    );
+    let lacks = lacks_of(counts, maxs, domains);
+    let settled = settled_counts(counts.slots, counts.choices, domains);
+    let mut least = least_counts(counts.slots, from, &lacks, tables, &settled);
     raise_by_rows(rows, &mut least);
     narrow_by_least(
         counts.slots,
@@ -161,7 +150,7 @@ pub fn narrow_by_counts(
     counts: Counts,
     maxs: &[u16],
     rows: &[u64],
-    tables: &[u16; 65325],
+    tables: &[u16; 52516],
     domains: &mut [u64; 64],
 )
     ensures { λ r. ⌜ now (domains .exit) ≡ countsRule (entryAt (now (tables .entry))) counts (now (maxs .entry)) (now (rows .entry)) (now (domains .entry)) ⌝ }

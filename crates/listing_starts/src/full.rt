@@ -1,12 +1,15 @@
-// A full start: the plan check's worker once, and what passes is numbered and put on the page.
+// A full start: the plan check once, or of a start that is known to be a node what it doesn't tell, and what passes is numbered and put on the page.
 use super::page::put_plan;
 use constraint::check::Counts;
 use scheduling::feasible::is_feasible;
+use scheduling::kept::keeps_every_row;
 ghost use mathlib.Core.Path.{_≡_};
+ghost use mathlib.Core.Bool.{true};
 ghost use lib.ListN.{length, getD};
 ghost use Rattle.scheduling.specs.Day.{dayOf};
+ghost use Rattle.scheduling.specs.Feasible.{isFeasible};
 ghost use Rattle.listing_nodes.specs.steps.Walk.{numbersAsked, countsOf};
-ghost use Rattle.listing_starts.specs.steps.Starts.{totalWith, pageWith};
+ghost use Rattle.listing_starts.specs.steps.Starts.{slotsFilled, fullPasses, totalWith, pageWith};
 
 // Where each of the numbers stands that all the starts share: the day's counts, the first plan number and the room.
 const CHOICES: usize = 0;
@@ -54,22 +57,10 @@ pub fn counts_of(asked: &[usize; 6]) -> Counts
     }
 }
 
-// A full start: one plan more if the plan check passes it, and there is a number for the one after it.
-pub fn list_plan(
-    asked: &[usize; 6],
-    mins: &[u16],
-    maxs: &[u16],
-    optional: &[u8],
-    rows: &[u64],
-    plan: &mut [u8],
-    total: &mut u64,
-    buffer: &mut [u8],
-)
-    ensures { λ _. ⌜ (now (total .exit) ≡ totalWith (dayOf (countsOf (now (asked .entry))) (now (mins .entry)) (now (maxs .entry)) (now (optional .entry)) (now (rows .entry))) (now (plan .entry)) (now (total .entry))) × (now (buffer .exit) ≡ pageWith (dayOf (countsOf (now (asked .entry))) (now (mins .entry)) (now (maxs .entry)) (now (optional .entry)) (now (rows .entry))) (getD (now (asked .entry)) 4 0) (getD (now (asked .entry)) 5 0) (now (plan .entry)) (now (buffer .entry)) (now (total .entry))) × (now (plan .exit) ≡ now (plan .entry)) ⌝ }
+// A plan that passes: one more if there is a number for the one after it.
+fn number_plan(asked: &[usize; 6], plan: &[u8], total: &mut u64, buffer: &mut [u8])
+    ensures { λ _. ⌜ (now (total .exit) ≡ totalWith true (now (total .entry))) × (now (buffer .exit) ≡ pageWith true (getD (now (asked .entry)) 4 0) (getD (now (asked .entry)) 5 0) (now (plan .entry)) (now (buffer .entry)) (now (total .entry))) ⌝ }
 {
-    if !is_feasible(counts_of(asked), mins, maxs, optional, rows, plan) {
-        return;
-    }
     if *total >= u64::MAX {
         return;
     }
@@ -81,4 +72,60 @@ pub fn list_plan(
         buffer,
     );
     *total += 1;
+}
+
+// A full start: one plan more if the plan check passes it.
+pub fn list_plan(
+    asked: &[usize; 6],
+    mins: &[u16],
+    maxs: &[u16],
+    optional: &[u8],
+    rows: &[u64],
+    plan: &mut [u8],
+    total: &mut u64,
+    buffer: &mut [u8],
+)
+    ensures { λ _. ⌜ (now (total .exit) ≡ totalWith (isFeasible (dayOf (countsOf (now (asked .entry))) (now (mins .entry)) (now (maxs .entry)) (now (optional .entry)) (now (rows .entry))) (now (plan .entry))) (now (total .entry))) × (now (buffer .exit) ≡ pageWith (isFeasible (dayOf (countsOf (now (asked .entry))) (now (mins .entry)) (now (maxs .entry)) (now (optional .entry)) (now (rows .entry))) (now (plan .entry))) (getD (now (asked .entry)) 4 0) (getD (now (asked .entry)) 5 0) (now (plan .entry)) (now (buffer .entry)) (now (total .entry))) × (now (plan .exit) ≡ now (plan .entry)) ⌝ }
+{
+    if !is_feasible(counts_of(asked), mins, maxs, optional, rows, plan) {
+        return;
+    }
+    number_plan(asked, plan, total, buffer);
+}
+
+// Whether each slot's sum of maximums reaches the headcount; of more than 24 slots it doesn't.
+fn slots_filled(slots: usize, choosers: usize, fills: &[usize; 24]) -> bool
+    ensures { λ r. ⌜ r ≡ slotsFilled slots choosers (now (fills .entry)) ⌝ }
+{
+    if 24 < slots {
+        return false;
+    }
+    let mut slot = 0;
+    while slot < slots {
+        if fills[slot] < choosers {
+            return false;
+        }
+        slot += 1;
+    }
+    true
+}
+
+// A full start of which the places and the sums of minimums are known to be allowed: one plan more if the sums of maximums and the rows are too.
+pub fn list_full(
+    asked: &[usize; 6],
+    rows: &[u64],
+    fills: &[usize; 24],
+    plan: &mut [u8],
+    total: &mut u64,
+    buffer: &mut [u8],
+)
+    ensures { λ _. ⌜ (now (total .exit) ≡ totalWith (fullPasses (getD (now (asked .entry)) 1 0) (getD (now (asked .entry)) 2 0) (now (rows .entry)) (now (fills .entry)) (now (plan .entry))) (now (total .entry))) × (now (buffer .exit) ≡ pageWith (fullPasses (getD (now (asked .entry)) 1 0) (getD (now (asked .entry)) 2 0) (now (rows .entry)) (now (fills .entry)) (now (plan .entry))) (getD (now (asked .entry)) 4 0) (getD (now (asked .entry)) 5 0) (now (plan .entry)) (now (buffer .entry)) (now (total .entry))) × (now (plan .exit) ≡ now (plan .entry)) ⌝ }
+{
+    if !slots_filled(asked[SLOTS], asked[CHOOSERS], fills) {
+        return;
+    }
+    if !keeps_every_row(plan, rows) {
+        return;
+    }
+    number_plan(asked, plan, total, buffer);
 }

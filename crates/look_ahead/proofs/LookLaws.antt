@@ -2,14 +2,15 @@
 use mathlib.Core.Path.{_≡_, refl, sym, ap, _∙_}
 use mathlib.Core.Bool.{Bool, true, false, _&&_, not, cond, false≢true}
 use mathlib.Core.List.{List, [], _∷_}
+use mathlib.Core.Logic.{_⊎_, inl, inr}
 use Prim.Native.Nat.{ℕ, zero, suc, _+_, _-_, _≤_, _<_}
 use native.Mathlib.Omega.{arith}
-use borrow.Author.Tests.{lt-ltb, eq-eqb, ne-eqb}
+use borrow.Author.Tests.{lt-ltb, le-ltb, ltb-true, ltb-false, eq-eqb, ne-eqb}
 use lib.Dec.{eqb, ltb, leb}
 use lib.ListN.{length, getD, set, take, replicate, length-set, length-replicate}
-use lib.Seq.{getD-take}
+use lib.Seq.{getD-take, getD-set-same}
 use Rattle.lists.specs.Below.{allBelow}
-use Rattle.lists.proofs.Below.{each-all}
+use Rattle.lists.proofs.Below.{each-all, and-both}
 use Rattle.constraint.specs.Row.{rowOf}
 use Rattle.constraint.specs.declared.check.Counts.{Counts}
 use Rattle.constraint.specs.declared.row.Row.{Row}
@@ -19,8 +20,9 @@ use Rattle.scheduling.specs.Feasible.{feasible}
 use Rattle.choice_sets.specs.Sets.{has}
 use Rattle.choice_sets.proofs.SetLaws.{has-past}
 use Rattle.place_sets.specs.Domains.{placeNumber, onlyPlace, Within}
-use Rattle.place_sets.proofs.DomainLaws.{number-le, only-has, each-length, within-at, set-within}
-use Rattle.weight_tables.specs.Tables.{Filled, tablesFit, entryAt}
+use Rattle.place_sets.proofs.DomainLaws.{number-le, only-has, each-length, within-at, set-within, feasible-place, past-none}
+use Rattle.listing_nodes.specs.steps.Walk.{placeOf, placeFits}
+use Rattle.weight_tables.specs.Tables.{Filled, tablesFit, entryAt, weightAt}
 use Rattle.slot_rules.specs.SlotRules.{slotsRule, limitRule}
 use Rattle.slot_rules.proofs.SlotLaws.{slots-length, slots-within}
 use Rattle.slot_rules.proofs.LimitLaws.{limit-length}
@@ -29,12 +31,14 @@ use Rattle.row_rules.specs.RowsRule.{anyRule, rowsRule}
 use Rattle.row_rules.proofs.RowsLaws.{row-length, rows-within}
 use Rattle.table_rule.specs.Figures.{freeOf, firstIn, lacksOf}
 use Rattle.table_rule.specs.Enough.{enoughPlaces}
-use Rattle.table_rule.specs.Rule.{tableRule, tablesBelow, fiveTables, tablesRule}
+use Rattle.table_rule.specs.Rule.{tableRule, tablesBelow, fourTables, tablesRule}
 use Rattle.table_rule.proofs.WithinLaws.{tables-within}
 use Rattle.table_rule.proofs.EnoughPlaces.{enough-keeps}
 use Rattle.count_rule.specs.CountRule.{countsRule}
 use Rattle.count_rule.proofs.CountLaws.{counts-length, counts-within}
-use Rattle.look_ahead.specs.Look.{decided, alive, aliveOr, weighed, lookedAhead, nearEnd, enoughAt, seenAt}
+use Rattle.open_places.specs.Open.{openAt, openPlaces}
+use Rattle.open_places.proofs.OpenLaws.{open-has, open-fits}
+use Rattle.look_ahead.specs.Look.{decided, alive, aliveOr, weighed, lookedAhead, nearEnd, openedAt, seenAt}
 
 -- ---- the last choice stands where the plan has it
 
@@ -88,17 +92,17 @@ alive-length choices domains l = go (alive choices domains)
 
 -- ---- no rule changes how many domains there are
 
-tables-below : (entry : ℕ → ℕ → ℕ → ℕ) (counts : Counts) (maxs : List ℕ) (free from : ℕ) (lacks : List ℕ) (n : ℕ) (domains : List ℕ)
-    → length (tablesBelow entry counts maxs free from lacks n domains) ≡ length domains
+tables-below : (entry : ℕ → ℕ → ℕ → ℕ) (weight : ℕ → ℕ → ℕ) (counts : Counts) (maxs : List ℕ) (free from : ℕ) (lacks : List ℕ) (n : ℕ) (domains : List ℕ)
+    → length (tablesBelow entry weight counts maxs free from lacks n domains) ≡ length domains
 unfolding tablesBelow
-tables-below entry counts maxs free from lacks zero domains = refl
-tables-below entry counts maxs free from lacks (suc n) domains =
-    each-length (counts .choices) (tableRule entry counts maxs n free from lacks) (tablesBelow entry counts maxs free from lacks n domains)
-    ∙ tables-below entry counts maxs free from lacks n domains
+tables-below entry weight counts maxs free from lacks zero domains = refl
+tables-below entry weight counts maxs free from lacks (suc n) domains =
+    each-length (counts .choices) (tableRule entry weight counts maxs n free from lacks) (tablesBelow entry weight counts maxs free from lacks n domains)
+    ∙ tables-below entry weight counts maxs free from lacks n domains
 
-tables-length : (entry : ℕ → ℕ → ℕ → ℕ) (counts : Counts) (maxs domains : List ℕ) → length (tablesRule entry counts maxs domains) ≡ length domains
-unfolding tablesRule fiveTables
-tables-length entry counts maxs domains = go (tablesFit counts maxs && leb (counts .slots) 24)
+tables-length : (entry : ℕ → ℕ → ℕ → ℕ) (weight : ℕ → ℕ → ℕ) (counts : Counts) (maxs domains : List ℕ) → length (tablesRule entry weight counts maxs domains) ≡ length domains
+unfolding tablesRule fourTables
+tables-length entry weight counts maxs domains = go (tablesFit counts maxs && leb (counts .slots) 24)
   where
     free : ℕ
     free = freeOf (counts .choices) domains
@@ -106,8 +110,8 @@ tables-length entry counts maxs domains = go (tablesFit counts maxs && leb (coun
     lacks : List ℕ
     lacks = lacksOf (counts .slots) (counts .choices) (counts .choosers) maxs free domains
 
-    go : (b : Bool) → length (cond b (tablesBelow entry counts maxs free (firstIn (counts .choices) free) lacks 5 domains) domains) ≡ length domains
-    go true = tables-below entry counts maxs free (firstIn (counts .choices) free) lacks 5 domains
+    go : (b : Bool) → length (cond b (tablesBelow entry weight counts maxs free (firstIn (counts .choices) free) lacks 4 domains) domains) ≡ length domains
+    go true = tables-below entry weight counts maxs free (firstIn (counts .choices) free) lacks 4 domains
     go false = refl
 
 any-length : (counts : Counts) (row : Row) (domains : List ℕ) → length (anyRule counts row domains) ≡ length domains
@@ -130,13 +134,13 @@ module _ (counts : Counts) (maxs rows tables plan : List ℕ) (choice : ℕ) (do
   weighed-by : weighed counts maxs rows tables (take choice plan) choice domains ≡ weighed counts maxs rows tables plan choice domains
   unfolding weighed
   weighed-by =
-      ap (λ (l : List ℕ). countsRule (entryAt tables) counts maxs rows (tablesRule (entryAt tables) counts maxs l)) (sym (decided-start (counts .slots) plan choice domains))
+      ap (λ (l : List ℕ). countsRule (entryAt tables) counts maxs rows (tablesRule (entryAt tables) (weightAt tables) counts maxs l)) (sym (decided-start (counts .slots) plan choice domains))
 
   weighed-length : length (weighed counts maxs rows tables plan choice domains) ≡ length domains
   unfolding weighed
   weighed-length =
-      counts-length (entryAt tables) counts maxs rows (tablesRule (entryAt tables) counts maxs (decided (counts .slots) plan choice domains))
-      ∙ tables-length (entryAt tables) counts maxs (decided (counts .slots) plan choice domains)
+      counts-length (entryAt tables) counts maxs rows (tablesRule (entryAt tables) (weightAt tables) counts maxs (decided (counts .slots) plan choice domains))
+      ∙ tables-length (entryAt tables) (weightAt tables) counts maxs (decided (counts .slots) plan choice domains)
       ∙ decided-length (counts .slots) plan choice domains
 
 -- ---- the look ahead
@@ -169,29 +173,74 @@ module _ (counts : Counts) (mins maxs rows tables plan : List ℕ) (choice : ℕ
 
 -- ---- as the walk sees it
 
-enough-length : (counts : Counts) (maxs tables : List ℕ) (choice : ℕ) (fills domains : List ℕ) → length (enoughAt counts maxs tables choice fills domains) ≡ length domains
-unfolding enoughAt
-enough-length counts maxs tables choice fills domains = go (ltb choice 64)
+opened-length : (counts : Counts) (mins maxs optional tables : List ℕ) (choice : ℕ) (sums fills domains : List ℕ)
+    → length (openedAt counts mins maxs optional tables choice sums fills domains) ≡ length domains
+unfolding openedAt
+opened-length counts mins maxs optional tables choice sums fills domains = go (ltb choice 64)
   where
-    go : (b : Bool) → length (cond b (set domains choice (enoughPlaces (entryAt tables) counts choice (getD maxs choice 0) fills (getD domains choice 0))) domains) ≡ length domains
-    go true = length-set domains choice (enoughPlaces (entryAt tables) counts choice (getD maxs choice 0) fills (getD domains choice 0))
+    go : (b : Bool) → length (cond b (set domains choice (openPlaces (entryAt tables) counts mins maxs optional choice sums fills (getD domains choice 0))) domains) ≡ length domains
+    go true = length-set domains choice (openPlaces (entryAt tables) counts mins maxs optional choice sums fills (getD domains choice 0))
     go false = refl
 
-module _ (counts : Counts) (mins maxs rows tables plan : List ℕ) (choice : ℕ) (fills domains : List ℕ) where
-  -- of a plan the places before the choice matter alone
-  pub seen-start : choice ≤ length plan → seenAt counts mins maxs rows tables (take choice plan) choice fills domains ≡ seenAt counts mins maxs rows tables plan choice fills domains
-  unfolding seenAt
-  seen-start h =
-      ap (λ (l : List ℕ). enoughAt counts maxs tables choice fills (cond (nearEnd (counts .choices) choice) domains l))
-      (looked-start counts mins maxs rows tables plan choice domains h)
+-- every place that the next choice has fits
+opened-fits : (counts : Counts) (mins maxs optional tables : List ℕ) (choice : ℕ) (sums fills domains : List ℕ) → counts .slots ≤ 24 → choice < 64 → (at : ℕ) → at ≤ counts .slots
+    → has (getD (openedAt counts mins maxs optional tables choice sums fills domains) choice 0) at ≡ true
+    → placeFits (counts .slots) (counts .choosers) mins optional sums choice (placeOf (counts .slots) at) ≡ true
+unfolding openedAt
+opened-fits counts mins maxs optional tables choice sums fills domains few h at k t = go (ltb choice (length domains)) refl
+  where
+    open-now : ℕ
+    open-now = openPlaces (entryAt tables) counts mins maxs optional choice sums fills (getD domains choice 0)
 
-  pub seen-length : length domains ≡ 64 → length (seenAt counts mins maxs rows tables plan choice fills domains) ≡ 64
-  unfolding seenAt
-  seen-length l = enough-length counts maxs tables choice fills (cond (nearEnd (counts .choices) choice) domains (lookedAhead counts mins maxs rows tables plan choice domains)) ∙ go (nearEnd (counts .choices) choice)
+    held : has (getD (set domains choice open-now) choice 0) at ≡ true
+    held = rw (lt-ltb choice 64 h) at t
+
+    go : (b : Bool) → ltb choice (length domains) ≡ b → placeFits (counts .slots) (counts .choosers) mins optional sums choice (placeOf (counts .slots) at) ≡ true
+    go true i =
+        open-fits (entryAt tables) counts mins maxs optional choice sums fills (getD domains choice 0) few at k
+        (ap (λ (d : ℕ). has d at) (sym (getD-set-same domains choice open-now 0 (ltb-true choice (length domains) i))) ∙ held)
+    go false i =
+        let e : 0 ≡ getD (set domains choice open-now) choice 0 =
+        past-none (set domains choice open-now) choice (omega (arith, length-set domains choice open-now, ltb-false choice (length domains) i)) in
+        absurd (false≢true (sym (has-none at) ∙ ap (λ (d : ℕ). has d at) e ∙ held))
+
+module _ (counts : Counts) (mins maxs optional rows tables plan : List ℕ) (choice : ℕ) (sums fills domains : List ℕ) where
+  -- what the walk goes on with near the end, and before it
+  before-length : length domains ≡ 64 → length (cond (nearEnd (counts .choices) choice) domains (lookedAhead counts mins maxs rows tables plan choice domains)) ≡ 64
+  before-length l = go (nearEnd (counts .choices) choice)
     where
       go : (b : Bool) → length (cond b domains (lookedAhead counts mins maxs rows tables plan choice domains)) ≡ 64
       go true = l
       go false = looked-length counts mins maxs rows tables plan choice domains l
+
+  -- of a plan the places before the choice matter alone
+  pub seen-start : choice ≤ length plan
+      → seenAt counts mins maxs optional rows tables (take choice plan) choice sums fills domains ≡ seenAt counts mins maxs optional rows tables plan choice sums fills domains
+  unfolding seenAt
+  seen-start h =
+      ap (λ (l : List ℕ). openedAt counts mins maxs optional tables choice sums fills (cond (nearEnd (counts .choices) choice) domains l))
+      (looked-start counts mins maxs rows tables plan choice domains h)
+
+  pub seen-length : length domains ≡ 64 → length (seenAt counts mins maxs optional rows tables plan choice sums fills domains) ≡ 64
+  unfolding seenAt
+  seen-length l =
+      opened-length counts mins maxs optional tables choice sums fills (cond (nearEnd (counts .choices) choice) domains (lookedAhead counts mins maxs rows tables plan choice domains))
+      ∙ before-length l
+
+  -- every place that the next choice has fits
+  pub seen-open : counts .slots ≤ 24 → choice < 64 → (at : ℕ) → at ≤ counts .slots
+      → has (getD (seenAt counts mins maxs optional rows tables plan choice sums fills domains) choice 0) at ≡ true
+      → placeFits (counts .slots) (counts .choosers) mins optional sums choice (placeOf (counts .slots) at) ≡ true
+  unfolding seenAt
+  seen-open =
+      opened-fits counts mins maxs optional tables choice sums fills (cond (nearEnd (counts .choices) choice) domains (lookedAhead counts mins maxs rows tables plan choice domains))
+
+-- a slot, or omission, is the place of its number
+place-back : (slots place : ℕ) → slots ≤ 24 → (place < slots) ⊎ (place ≡ 255) → placeOf slots (placeNumber slots place) ≡ place
+unfolding placeOf placeNumber
+place-back slots place few (inl h) = rw (lt-ltb place slots h) (rw (lt-ltb place slots h))
+place-back slots place few (inr e) =
+    rw (e, le-ltb 255 slots (omega (arith, few)), le-ltb slots slots (omega arith))
 
 -- what the laws of the look ahead ask of a day
 pub record Looks (day : Day) (tables : List ℕ) : Type 0 where
@@ -209,11 +258,11 @@ module _ (day : Day) (tables : List ℕ) (looks : Looks day tables) (plan : List
   unfolding weighed
   weighed-within choice domains h l w =
       let last = decided (day .counts .slots) plan choice domains in
-      let by-tables = tablesRule (entryAt tables) (day .counts) (day .maxs) last in
+      let by-tables = tablesRule (entryAt tables) (weightAt tables) (day .counts) (day .maxs) last in
       let wl : Within (day .counts .slots) plan last =
       decided-within (day .counts .slots) plan choice domains (looks .few-slots) (omega (arith, h, l, looks .few-choices)) w in
       let ll : length last ≡ 64 = decided-length (day .counts .slots) plan choice domains ∙ l in
-      let lt : length by-tables ≡ 64 = tables-length (entryAt tables) (day .counts) (day .maxs) last ∙ ll in
+      let lt : length by-tables ≡ 64 = tables-length (entryAt tables) (weightAt tables) (day .counts) (day .maxs) last ∙ ll in
       let wt : Within (day .counts .slots) plan by-tables = tables-within day plan tables last f size (looks .filled) ll wl in
       counts-within day plan tables by-tables f size (looks .filled) lt wt
 
@@ -232,26 +281,32 @@ module _ (day : Day) (tables : List ℕ) (looks : Looks day tables) (plan : List
       (alive-within (day .counts .slots) plan (day .counts .choices) (rowsRule (day .counts) (day .rows) summed) size
       (rows-within day plan summed f size (looks .few-slots) ls ws)))
 
-  -- and within what the walk sees at its starts
-  pub seen-within : (choice : ℕ) (fills domains : List ℕ) → choice < day .counts .choices
+  -- and within what the walk sees at its starts, if its own place fits there
+  pub seen-within : (choice : ℕ) (sums fills domains : List ℕ) → choice < day .counts .choices
       → ((slot : ℕ) → getD fills slot 0 ≡ sumIn (day .maxs) (take choice plan) slot) → length domains ≡ 64 → Within (day .counts .slots) plan domains
-      → Within (day .counts .slots) plan (seenAt (day .counts) (day .mins) (day .maxs) (day .rows) tables (take choice plan) choice fills domains)
-  unfolding seenAt enoughAt
-  seen-within choice fills domains h s l w =
+      → placeFits (day .counts .slots) (day .counts .choosers) (day .mins) (day .optional) sums choice (slotOf plan choice) ≡ true
+      → Within (day .counts .slots) plan (seenAt (day .counts) (day .mins) (day .maxs) (day .optional) (day .rows) tables (take choice plan) choice sums fills domains)
+  unfolding seenAt openedAt openAt
+  seen-within choice sums fills domains h s l w fits =
       let looked = lookedAhead (day .counts) (day .mins) (day .maxs) (day .rows) tables (take choice plan) choice domains in
       let before = cond (nearEnd (day .counts .choices) choice) domains looked in
+      let at = placeNumber (day .counts .slots) (slotOf plan choice) in
       let wb : Within (day .counts .slots) plan before = go (nearEnd (day .counts .choices) choice) in
+      let lb : length before ≡ 64 = before-length (day .counts) (day .mins) (day .maxs) (day .optional) (day .rows) tables (take choice plan) choice sums fills domains l in
+      let back : placeOf (day .counts .slots) at ≡ slotOf plan choice =
+      place-back (day .counts .slots) (slotOf plan choice) (looks .few-slots) (feasible-place day plan f choice (omega (arith, h, size))) in
       rw (lt-ltb choice 64 (omega (arith, h, looks .few-choices)))
       (set-within (day .counts .slots) plan before wb choice
-      (enoughPlaces (entryAt tables) (day .counts) choice (getD (day .maxs) choice 0) fills (getD before choice 0))
-      (omega (arith, h, looks .few-choices, size-of (nearEnd (day .counts .choices) choice))) λ k.
-      enough-keeps day plan tables f size (looks .filled) (looks .few-choices) (looks .few-choosers) choice fills (getD before choice 0) h s
-      (within-at (day .counts .slots) plan before wb choice (omega (arith, h, size))))
+      (openPlaces (entryAt tables) (day .counts) (day .mins) (day .maxs) (day .optional) choice sums fills (getD before choice 0))
+      (omega (arith, h, looks .few-choices, lb)) λ k.
+      open-has (entryAt tables) (day .counts) (day .mins) (day .maxs) (day .optional) choice sums fills (getD before choice 0) (looks .few-slots) at
+      (number-le (day .counts .slots) (slotOf plan choice))
+      ∙ and-both (placeFits (day .counts .slots) (day .counts .choosers) (day .mins) (day .optional) sums choice (placeOf (day .counts .slots) at))
+      (has (enoughPlaces (entryAt tables) (day .counts) choice (getD (day .maxs) choice 0) fills (getD before choice 0)) at)
+      (ap (placeFits (day .counts .slots) (day .counts .choosers) (day .mins) (day .optional) sums choice) back ∙ fits)
+      (enough-keeps day plan tables f size (looks .filled) (looks .few-choices) (looks .few-choosers) choice fills (getD before choice 0) h s
+      (within-at (day .counts .slots) plan before wb choice (omega (arith, h, size)))))
     where
-      size-of : (b : Bool) → length (cond b domains (lookedAhead (day .counts) (day .mins) (day .maxs) (day .rows) tables (take choice plan) choice domains)) ≡ 64
-      size-of true = l
-      size-of false = looked-length (day .counts) (day .mins) (day .maxs) (day .rows) tables (take choice plan) choice domains l
-
       go : (b : Bool) → Within (day .counts .slots) plan (cond b domains (lookedAhead (day .counts) (day .mins) (day .maxs) (day .rows) tables (take choice plan) choice domains))
       go true = w
       go false = looked-within choice domains (omega (arith, h)) l w

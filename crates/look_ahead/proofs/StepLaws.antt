@@ -14,13 +14,13 @@ use Rattle.lists.proofs.Through.{all-none, all-done}
 use Rattle.constraint.specs.declared.check.Counts.{Counts}
 use Rattle.scheduling.specs.Plan.{slotOf}
 use Rattle.place_sets.specs.Domains.{placeNumber, onlyPlace}
-use Rattle.weight_tables.specs.Tables.{entryAt}
+use Rattle.weight_tables.specs.Tables.{entryAt, weightAt}
 use Rattle.slot_rules.specs.SlotRules.{slotsRule}
 use Rattle.row_rules.specs.RowsRule.{rowsRule}
 use Rattle.table_rule.specs.Rule.{tablesRule}
-use Rattle.table_rule.specs.Enough.{enoughPlaces}
 use Rattle.count_rule.specs.CountRule.{countsRule}
-use Rattle.look_ahead.specs.Look.{decided, alive, aliveOr, weighed, lookedAhead, nearEnd, enoughAt, seenAt}
+use Rattle.open_places.specs.Open.{openPlaces}
+use Rattle.look_ahead.specs.Look.{decided, alive, aliveOr, weighed, lookedAhead, nearEnd, openedAt, seenAt}
 
 -- ---- the last choice is decided
 
@@ -80,14 +80,14 @@ more-alive domains choice h n = all-more (λ choice. not (eqb (getD domains choi
 
 module _ (counts : Counts) (mins maxs rows tables plan : List ℕ) (choice : ℕ) (domains : List ℕ) where
   module _ {counts' : Counts} {last by-tables by-counts : List ℕ} (e : counts' ≡ counts) (d : last ≡ decided (counts' .slots) plan choice domains)
-      (t : by-tables ≡ tablesRule (entryAt tables) counts' maxs last) (n : by-counts ≡ countsRule (entryAt tables) counts' maxs rows by-tables)
+      (t : by-tables ≡ tablesRule (entryAt tables) (weightAt tables) counts' maxs last) (n : by-counts ≡ countsRule (entryAt tables) counts' maxs rows by-tables)
       {living : Bool} (l : living ≡ alive (counts' .choices) by-counts) where
     weighed-is : by-counts ≡ weighed counts maxs rows tables plan choice domains
     unfolding weighed
     weighed-is =
         n
-        ∙ ap (countsRule (entryAt tables) counts' maxs rows) (t ∙ ap (tablesRule (entryAt tables) counts' maxs) d)
-        ∙ ap (λ (k : Counts). countsRule (entryAt tables) k maxs rows (tablesRule (entryAt tables) k maxs (decided (k .slots) plan choice domains))) e
+        ∙ ap (countsRule (entryAt tables) counts' maxs rows) (t ∙ ap (tablesRule (entryAt tables) (weightAt tables) counts' maxs) d)
+        ∙ ap (λ (k : Counts). countsRule (entryAt tables) k maxs rows (tablesRule (entryAt tables) (weightAt tables) k maxs (decided (k .slots) plan choice domains))) e
 
     living-is : living ≡ alive (counts .choices) (weighed counts maxs rows tables plan choice domains)
     living-is = l ∙ ap (λ (k : Counts). alive (k .choices) by-counts) e ∙ ap (alive (counts .choices)) weighed-is
@@ -127,29 +127,32 @@ module _ (choices choice : ℕ) where
       go true t = sym (le-leb choices (choice + 7) (omega (arith, leb-true (choices - choice) 7 t, h)))
       go false t = sym (lt-leb choices (choice + 7) (omega (arith, leb-false (choices - choice) 7 t, h)))
 
-module _ (counts : Counts) (maxs tables : List ℕ) (choice : ℕ) (fills domains : List ℕ) where
+module _ (counts : Counts) (mins maxs optional tables : List ℕ) (choice : ℕ) (sums fills domains : List ℕ) where
   -- no choice past 63 has a domain
-  pub enough-past : 64 ≤ choice → domains ≡ enoughAt counts maxs tables choice fills domains
-  unfolding enoughAt
-  enough-past h = sym (rw (le-ltb choice 64 h))
+  pub opened-past : 64 ≤ choice → domains ≡ openedAt counts mins maxs optional tables choice sums fills domains
+  unfolding openedAt
+  opened-past h = sym (rw (le-ltb choice 64 h))
 
-  pub enough-now : {most kept : ℕ} → choice < 64 → most ≡ getD maxs choice 0 → kept ≡ enoughPlaces (entryAt tables) counts choice most fills (getD domains choice 0)
-      → set domains choice kept ≡ enoughAt counts maxs tables choice fills domains
-  unfolding enoughAt
-  enough-now h m k =
-      ap (set domains choice) (k ∙ ap (λ (x : ℕ). enoughPlaces (entryAt tables) counts choice x fills (getD domains choice 0)) m) ∙ sym (rw (lt-ltb choice 64 h))
+  pub opened-now : {left : ℕ} → choice < 64 → left ≡ openPlaces (entryAt tables) counts mins maxs optional choice sums fills (getD domains choice 0)
+      → set domains choice left ≡ openedAt counts mins maxs optional tables choice sums fills domains
+  unfolding openedAt
+  opened-now h k = ap (set domains choice) k ∙ sym (rw (lt-ltb choice 64 h))
 
-module _ (counts : Counts) (mins maxs rows tables plan : List ℕ) (choice : ℕ) (fills domains : List ℕ) {counts' : Counts} (e : counts' ≡ counts)
+module _ (counts : Counts) (mins maxs optional rows tables plan : List ℕ) (choice : ℕ) (sums fills domains : List ℕ) {counts' : Counts} (e : counts' ≡ counts)
     {b : Bool} (n : b ≡ nearEnd (counts' .choices) choice) where
   near-is : nearEnd (counts .choices) choice ≡ b
   near-is = ap (λ (k : Counts). nearEnd (k .choices) choice) (sym e) ∙ sym n
 
-  pub seen-near : {seen : List ℕ} → b ≡ true → seen ≡ enoughAt counts' maxs tables choice fills domains → seen ≡ seenAt counts mins maxs rows tables plan choice fills domains
+  pub seen-near : {seen : List ℕ} → b ≡ true → seen ≡ openedAt counts' mins maxs optional tables choice sums fills domains
+      → seen ≡ seenAt counts mins maxs optional rows tables plan choice sums fills domains
   unfolding seenAt
-  seen-near t s = s ∙ ap (λ (k : Counts). enoughAt k maxs tables choice fills domains) e ∙ sym (rw (near-is ∙ t))
+  seen-near t s = s ∙ ap (λ (k : Counts). openedAt k mins maxs optional tables choice sums fills domains) e ∙ sym (rw (near-is ∙ t))
 
   pub seen-far : {looked : List ℕ} {seen : List ℕ} → b ≡ false → looked ≡ lookedAhead counts mins maxs rows tables plan choice domains
-      → seen ≡ enoughAt counts' maxs tables choice fills looked → seen ≡ seenAt counts mins maxs rows tables plan choice fills domains
+      → seen ≡ openedAt counts' mins maxs optional tables choice sums fills looked → seen ≡ seenAt counts mins maxs optional rows tables plan choice sums fills domains
   unfolding seenAt
   seen-far {looked} f l s =
-      s ∙ ap (λ (k : Counts). enoughAt k maxs tables choice fills looked) e ∙ ap (enoughAt counts maxs tables choice fills) l ∙ sym (rw (near-is ∙ f))
+      s
+      ∙ ap (λ (k : Counts). openedAt k mins maxs optional tables choice sums fills looked) e
+      ∙ ap (openedAt counts mins maxs optional tables choice sums fills) l
+      ∙ sym (rw (near-is ∙ f))

@@ -1,4 +1,4 @@
--- What the walk looks at before it goes on from a start: what the rules leave of the domains, and the places of the next choice with which enough choices are left.
+-- What the walk looks at before it goes on from a start: what the rules leave of the domains, and the places that are open to the next choice.
 use mathlib.Core.Bool.{Bool, true, not, cond}
 use mathlib.Core.List.{List}
 use Prim.Native.Nat.{ℕ, zero, suc, _+_}
@@ -8,12 +8,12 @@ use Rattle.lists.specs.Below.{allBelow}
 use Rattle.constraint.specs.declared.check.Counts.{Counts}
 use Rattle.scheduling.specs.Plan.{slotOf}
 use Rattle.place_sets.specs.Domains.{placeNumber, onlyPlace}
-use Rattle.weight_tables.specs.Tables.{entryAt}
+use Rattle.weight_tables.specs.Tables.{entryAt, weightAt}
 use Rattle.slot_rules.specs.SlotRules.{slotsRule}
 use Rattle.row_rules.specs.RowsRule.{rowsRule}
 use Rattle.table_rule.specs.Rule.{tablesRule}
-use Rattle.table_rule.specs.Enough.{enoughPlaces}
 use Rattle.count_rule.specs.CountRule.{countsRule}
+use Rattle.open_places.specs.Open.{openPlaces}
 
 -- the domains once the last of so many choices stands at its place
 unfoldable pub decided : ℕ → List ℕ → ℕ → List ℕ → List ℕ
@@ -31,7 +31,7 @@ aliveOr choices domains = cond (alive choices domains) domains (replicate 64 0)
 -- what tables and counts leave once the last choice is decided
 unfoldable pub weighed : Counts → List ℕ → List ℕ → List ℕ → List ℕ → ℕ → List ℕ → List ℕ
 weighed counts maxs rows tables plan choice domains =
-    countsRule (entryAt tables) counts maxs rows (tablesRule (entryAt tables) counts maxs (decided (counts .slots) plan choice domains))
+    countsRule (entryAt tables) counts maxs rows (tablesRule (entryAt tables) (weightAt tables) counts maxs (decided (counts .slots) plan choice domains))
 
 -- the domains at a start: its last choice is decided, tables and counts take away what they leave to no plan, and then, unless the start is dead by now, so do slots and rows
 unfoldable pub lookedAhead : Counts → List ℕ → List ℕ → List ℕ → List ℕ → List ℕ → ℕ → List ℕ → List ℕ
@@ -44,13 +44,13 @@ lookedAhead counts mins maxs rows tables plan choice domains =
 unfoldable pub nearEnd : ℕ → ℕ → Bool
 nearEnd choices choice = leb choices (choice + 7)
 
--- of the next choice's places those stay with which the choices after it are still enough for what the slots lack; no choice past 63 has any
-unfoldable pub enoughAt : Counts → List ℕ → List ℕ → ℕ → List ℕ → List ℕ → List ℕ
-enoughAt counts maxs tables choice fills domains =
-    cond (ltb choice 64) (set domains choice (enoughPlaces (entryAt tables) counts choice (getD maxs choice 0) fills (getD domains choice 0))) domains
+-- the next choice's domain is the set of the places that are open to it; no choice past 63 has any
+unfoldable pub openedAt : Counts → List ℕ → List ℕ → List ℕ → List ℕ → ℕ → List ℕ → List ℕ → List ℕ → List ℕ
+openedAt counts mins maxs optional tables choice sums fills domains =
+    cond (ltb choice 64) (set domains choice (openPlaces (entryAt tables) counts mins maxs optional choice sums fills (getD domains choice 0))) domains
 
--- the domains as the walk sees them at a start, the slots filled so far
-unfoldable pub seenAt : Counts → List ℕ → List ℕ → List ℕ → List ℕ → List ℕ → ℕ → List ℕ → List ℕ → List ℕ
-seenAt counts mins maxs rows tables plan choice fills domains =
-    enoughAt counts maxs tables choice fills
+-- the domains as the walk sees them at a start, with each slot's sum of minimums and of maximums so far
+unfoldable pub seenAt : Counts → List ℕ → List ℕ → List ℕ → List ℕ → List ℕ → List ℕ → ℕ → List ℕ → List ℕ → List ℕ → List ℕ
+seenAt counts mins maxs optional rows tables plan choice sums fills domains =
+    openedAt counts mins maxs optional tables choice sums fills
     (cond (nearEnd (counts .choices) choice) domains (lookedAhead counts mins maxs rows tables plan choice domains))

@@ -18,7 +18,7 @@ pub fn look_ahead(
     mins: &[u16],
     maxs: &[u16],
     rows: &[u64],
-    tables: &[u16; 65_325],
+    tables: &[u16; 52_516],
     choice: usize,
     plan: &mut [u8],
     domains: &[u64; 64],

@@ -41,6 +41,15 @@ settled domain = leb (sizeOf domain) 1
 unfoldable pub inOneSlot : ℕ → ℕ → Bool
 inOneSlot slots domain = eqb (sizeOf domain) 1 && not (has domain slots)
 
+-- the first of so many places from one on that the domain has, the place after them if it has none
+unfoldable pub lowestFrom : ℕ → ℕ → ℕ → ℕ
+lowestFrom place zero domain = place
+lowestFrom place (suc n) domain = cond (has domain place) place (lowestFrom (suc place) n domain)
+
+-- the lowest place of a domain, 64 if it has none
+unfoldable pub lowestPlace : ℕ → ℕ
+lowestPlace domain = lowestFrom 0 64 domain
+
 -- each of the first domains changed by its choice's own rule
 unfoldable pub eachBelow : ℕ → (ℕ → ℕ → ℕ) → List ℕ → List ℕ
 eachBelow zero rule domains = domains

@@ -6,7 +6,7 @@ ghost use Prim.Native.Nat.{ℕ, _<_};
 ghost use lib.Dec.{eqb, ltb};
 ghost use lib.ListN.{length, getD};
 ghost use Rattle.choice_sets.specs.Sets.{setOf};
-ghost use Rattle.place_sets.specs.Domains.{firstDomain, onlyPlace, keptPlaces, bothPlaces, settled, inOneSlot};
+ghost use Rattle.place_sets.specs.Domains.{firstDomain, onlyPlace, keptPlaces, bothPlaces, settled, inOneSlot, lowestPlace};
 
 // The domain that holds one place alone; no place is past 63.
 pub fn only(place: usize) -> u64
@@ -49,6 +49,13 @@ pub fn is_settled(domain: u64) -> bool
         return true;
     }
     domain & (domain - 1) == 0
+}
+
+// The lowest place, 64 if there is none: of a settled domain its one place.
+pub fn lowest_place(domain: u64) -> usize
+    ensures { λ r. ⌜ r ≡ lowestPlace domain ⌝ }
+{
+    u64::trailing_zeros(domain) as usize
 }
 
 // Whether one place is left, and it isn't omission.

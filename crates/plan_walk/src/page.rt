@@ -2,6 +2,7 @@
 use super::walk::walk_choice;
 use constraint::check::Checked;
 use constraint::check::Counts;
+use fitted_weights::fit::fit_weights;
 use listing_nodes::judge::judge;
 use listing_nodes::nodes::no_sums;
 use listing_starts::full::no_plan;
@@ -33,7 +34,7 @@ fn walk_all(
     maxs: &[u16],
     optional: &[u8],
     rows: &[u64],
-    tables: &[u16; 65_325],
+    tables: &[u16; 52_516],
     domains: &[u64; 64],
     turns: &mut u64,
     met: &mut u64,
@@ -65,7 +66,7 @@ fn walk_all(
     )
 }
 
-// A day that is not refused: its tables, its choices' first domains, and the walk.
+// A day that is not refused: its tables by weights that are fitted to it, its choices' first domains, and the walk.
 fn page_of_day(
     counts: Counts,
     mins: &[u16],
@@ -81,6 +82,7 @@ fn page_of_day(
     ensures { λ r. ⌜ (judgeOf (dayOf counts (now (mins .entry)) (now (maxs .entry)) (now (optional .entry)) (now (rows .entry))) room (length (now (buffer .entry))) ≡ good → Fits (dayOf counts (now (mins .entry)) (now (maxs .entry)) (now (optional .entry)) (now (rows .entry))) first room budget (now (buffer .entry)) (pagedTells r) (now (buffer .exit))) ⌝ }
 {
     let mut tables = no_tables();
+    fit_weights(counts, maxs, &mut tables);
     fill_tables(counts, maxs, &mut tables);
     let domains = first_domains(counts.slots, optional);
     let asked = numbers_asked(counts, first, room);

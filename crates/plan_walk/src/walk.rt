@@ -1,12 +1,8 @@
 // The walk itself, in 01's form for the listing. A slice is copied at each call, a reference to it isn't; the buffer alone can't be had behind one.
-use super::places::leave_place;
-use super::places::next_in;
-use super::places::take_place;
-use listing_starts::full::CHOOSERS;
-use listing_starts::full::SLOTS;
-use listing_starts::full::list_plan;
-use listing_starts::places::place_at;
-use look_ahead::see::see;
+use listing_starts::full::list_full;
+use walk_steps::next::see_first;
+use walk_steps::stand::leave_place;
+use walk_steps::stand::take_place;
 ghost use mathlib.Core.Path.{_≡_};
 ghost use mathlib.Core.Bool.{true};
 ghost use Prim.Native.Nat.{_+_, _-_};
@@ -31,7 +27,7 @@ pub(crate) fn walk_choice(
     maxs: &&[u16],
     optional: &&[u8],
     rows: &&[u64],
-    tables: &[u16; 65_325],
+    tables: &[u16; 52_516],
     domains: &[u64; 64],
     choice: usize,
     plan: &mut &mut [u8],
@@ -49,32 +45,22 @@ pub(crate) fn walk_choice(
     }
     *turns -= 1;
     if choice == plan.len() {
-        list_plan(asked, *mins, *maxs, *optional, *rows, *plan, met, buffer);
+        list_full(asked, *rows, fills, *plan, met, buffer);
         return goes_on(asked, *met);
     }
-    let slots = asked[SLOTS];
-    let choosers = asked[CHOOSERS];
     let mut seen = *domains;
-    see(
+    let left = see_first(
         asked,
         *mins,
         *maxs,
+        *optional,
         *rows,
         tables,
         choice,
         *plan,
+        sums,
         fills,
         &mut seen,
-    );
-    let left = next_in(
-        slots,
-        choosers,
-        mins,
-        optional,
-        choice,
-        seen[choice],
-        slots + 1,
-        sums,
     );
     if left == 0 {
         return true;
@@ -105,7 +91,7 @@ fn walk_place(
     maxs: &&[u16],
     optional: &&[u8],
     rows: &&[u64],
-    tables: &[u16; 65_325],
+    tables: &[u16; 52_516],
     domains: &[u64; 64],
     choice: usize,
     left: usize,
@@ -119,9 +105,7 @@ fn walk_place(
     requires { ⌜ Ready (dayOf (countsOf (now asked)) (now (now mins)) (now (now maxs)) (now (now optional)) (now (now rows))) (getD (now asked) 4 0) (getD (now asked) 5 0) (choice + 1) choice (now (now plan)) (now sums) (now fills) (now turns) (now met) (now buffer) × Takes (dayOf (countsOf (now asked)) (now (now mins)) (now (now maxs)) (now (now optional)) (now (now rows))) choice left (now sums) (now domains) ⌝ }
     ensures { λ r. ⌜ Walked (getD (now (asked .entry)) 4 0) (getD (now (asked .entry)) 5 0) choice (eventsLeft (dayOf (countsOf (now (asked .entry))) (now (now (mins .entry))) (now (now (maxs .entry))) (now (now (optional .entry))) (now (now (rows .entry)))) (now (tables .entry)) (length (now (now (plan .entry))) - (choice + 1)) (take choice (now (now (plan .entry)))) (now (sums .entry)) (now (fills .entry)) (now (domains .entry)) left) (now (now (plan .entry))) (now (now (plan .exit))) (now (sums .entry)) (now (sums .exit)) (now (fills .entry)) (now (fills .exit)) (standing true (now (turns .entry)) (now (met .entry)) (now (buffer .entry))) (standing r (now (turns .exit)) (now (met .exit)) (now (buffer .exit))) ⌝ }
 {
-    let slots = asked[SLOTS];
-    let place = place_at(slots, left);
-    take_place(slots, mins, maxs, choice, place, plan, sums, fills);
+    let stood = take_place(asked, mins, maxs, choice, left, plan, sums, fills);
     let going = walk_choice(
         asked,
         mins,
@@ -138,21 +122,10 @@ fn walk_place(
         met,
         buffer,
     );
-    leave_place(slots, mins, maxs, choice, place, sums, fills);
+    let next = leave_place(asked, stood, choice, left, domains, sums, fills);
     if !going {
         return false;
     }
-    let choosers = asked[CHOOSERS];
-    let next = next_in(
-        slots,
-        choosers,
-        mins,
-        optional,
-        choice,
-        domains[choice],
-        left - 1,
-        sums,
-    );
     if next == 0 {
         return true;
     }

@@ -1,12 +1,12 @@
--- The places with which the choices after are enough: each way through the code, and that the place of a feasible plan stays.
+-- The places with which the choices after are enough: the place of a feasible plan stays.
 use mathlib.Core.Path.{_≡_, refl, sym, _∙_, ap}
 use mathlib.Core.Bool.{Bool, true, false, _&&_, cond}
 use mathlib.Core.List.{List}
 use Prim.Native.Nat.{ℕ, _+_, _-_, _≤_, _<_}
 use native.Mathlib.Omega.{arith}
-use borrow.Author.Tests.{lt-ltb, le-ltb, le-leb, lt-leb, leb-true, leb-false, eq-eqb, ne-eqb}
+use borrow.Author.Tests.{le-leb, leb-true, leb-false, eq-eqb, ne-eqb}
 use lib.Dec.{eqb, ltb, leb}
-use lib.ListN.{length, getD, set, take, replicate, length-replicate}
+use lib.ListN.{length, getD, take, replicate, length-replicate}
 use Rattle.lists.specs.Below.{sumBelow}
 use Rattle.lists.proofs.Below.{and-left, and-both, sum-more}
 use Rattle.lists.proofs.SumBelow.{sum-ext}
@@ -18,65 +18,14 @@ use Rattle.scheduling.specs.Plan.{slotOf, standsIn, sumIn}
 use Rattle.scheduling.specs.Feasible.{feasible}
 use Rattle.scheduling.proofs.Meaning.{Feasible, Placed, feasible-means}
 use Rattle.plan_rows.proofs.PlanLaws.{stands-omitted, stands-by}
-use Rattle.weight_tables.specs.Tables.{Filled, entryAt, written}
-use Rattle.weight_tables.proofs.TableLaws.{written-more, written-in}
+use Rattle.weight_tables.specs.Tables.{Filled, entryAt, weightAt, written}
+use Rattle.weight_tables.proofs.TableLaws.{written-in}
 use Rattle.weight_tables.proofs.EnoughLaws.{enough-need, enough-filled, enough-safe, start-sum}
 use Rattle.place_sets.specs.Domains.{placeNumber}
 use Rattle.place_sets.proofs.DomainLaws.{number-in}
 use Rattle.table_rule.specs.Rule.{needOf, slotKept}
 use Rattle.table_rule.specs.Enough.{lackAt, lacksAt, enoughWith, enoughAsked, enoughPlaces}
 use Rattle.table_rule.proofs.FillLaws.{change-one}
-
--- the lacks, one more
-pub lack-step : (choosers : ℕ) (fills : List ℕ) (slot lack : ℕ) (before lacks : List ℕ) → lacks ≡ written slot 0 (lackAt choosers fills) before
-    → lack ≡ choosers - getD fills slot 0 → set lacks slot lack ≡ written (slot + 1) 0 (lackAt choosers fills) before
-unfolding lackAt
-lack-step choosers fills slot lack before lacks l k =
-    let f : ℕ → ℕ = lackAt choosers fills in
-    let z : slot ≡ 0 + slot = omega arith in
-    ap (λ (x : List ℕ). set x slot lack) l ∙ ap (λ (x : ℕ). set (written slot 0 f before) slot x) k
-    ∙ ap (λ (x : ℕ). set (written slot 0 f before) x (f slot)) z ∙ written-more 0 f before slot
-
-module _ (entry : ℕ → ℕ → ℕ → ℕ) where
-  -- all places, or the slots that stay
-  module _ (slots from : ℕ) (lacks : List ℕ) (most spare domain need : ℕ) where
-    pub with-all : need ≡ needOf entry slots 0 from lacks → need ≤ spare → domain ≡ enoughWith entry slots from lacks most spare domain
-    unfolding enoughWith
-    with-all n h = rw (sym n, le-leb _ _ h)
-
-    pub with-some : (wide result : ℕ) → need ≡ needOf entry slots 0 from lacks → spare < need → wide ≡ most
-        → result ≡ setOf slots (slotKept entry 0 from lacks 0 wide need spare domain) → result ≡ enoughWith entry slots from lacks most spare domain
-    unfolding enoughWith
-    with-some wide result n h w r =
-        rw (sym n, lt-leb _ _ h) (r ∙ ap (λ (x : ℕ). setOf slots (slotKept entry 0 from lacks 0 x need spare domain)) w)
-
-  -- the call
-  module _ (counts : Counts) (choice most : ℕ) (fills : List ℕ) (domain : ℕ) where
-    pub places-many-slots : 24 < counts .slots → domain ≡ enoughPlaces entry counts choice most fills domain
-    unfolding enoughPlaces enoughAsked
-    places-many-slots s = rw (lt-leb _ _ s)
-
-    pub places-many-choosers : counts .slots ≤ 24 → 200 < counts .choosers → domain ≡ enoughPlaces entry counts choice most fills domain
-    unfolding enoughPlaces enoughAsked
-    places-many-choosers s h = rw (le-leb _ _ s, lt-leb _ _ h)
-
-    pub places-many-choices : counts .slots ≤ 24 → counts .choosers ≤ 200 → 64 < counts .choices → domain ≡ enoughPlaces entry counts choice most fills domain
-    unfolding enoughPlaces enoughAsked
-    places-many-choices s h c = rw (le-leb _ _ s, le-leb _ _ h, lt-leb _ _ c)
-
-    pub places-past : counts .slots ≤ 24 → counts .choosers ≤ 200 → counts .choices ≤ 64 → counts .choices ≤ choice → domain ≡ enoughPlaces entry counts choice most fills domain
-    unfolding enoughPlaces enoughAsked
-    places-past s h c p = rw (le-leb _ _ s, le-leb _ _ h, le-leb _ _ c, le-ltb _ _ p)
-
-    pub places-asked : (none lacks : List ℕ) (result : ℕ) → counts .slots ≤ 24 → counts .choosers ≤ 200 → counts .choices ≤ 64 → choice < counts .choices
-        → none ≡ replicate 24 0 → lacks ≡ written (counts .slots) 0 (lackAt (counts .choosers) fills) none
-        → result ≡ enoughWith entry (counts .slots) (choice + 1) lacks most (counts .choices - (choice + 1)) domain
-        → result ≡ enoughPlaces entry counts choice most fills domain
-    unfolding enoughPlaces enoughAsked lacksAt
-    places-asked none lacks result s h c p n l r =
-        rw (le-leb _ _ s, le-leb _ _ h, le-leb _ _ c, lt-ltb _ _ p)
-        (r ∙ ap (λ (x : List ℕ). enoughWith entry (counts .slots) (choice + 1) x most (counts .choices - (choice + 1)) domain)
-        (l ∙ ap (λ (x : List ℕ). written (counts .slots) 0 (lackAt (counts .choosers) fills) x) n))
 
 -- what is written for a slot stands at its place
 written-at : (slots : ℕ) (f : ℕ → ℕ) → slots ≤ 24 → (slot : ℕ) → slot < slots → getD (written slots 0 f (replicate 24 0)) slot 0 ≡ f slot
@@ -133,7 +82,7 @@ module _ (day : Day) (plan tables : List ℕ) (feasibly : feasible day plan ≡ 
         let safe : leb (sumBelow slots g) spare ≡ true =
         enough-need (entryAt tables) slots choosers (day .counts .choices) from next (sumBelow slots g) thin held few (omega arith) refl
         ∙ enough-filled (day .counts) (day .maxs) tables filled few held slots from next (omega arith)
-        ∙ enough-safe day plan feasibly len from next (omega arith) (λ slot hs. written-at slots sum thin slot hs) in
+        ∙ enough-safe (weightAt tables) (filled .ones) day plan feasibly len from next (omega arith) (λ slot hs. written-at slots sum thin slot hs) in
         let same : sumBelow slots after ≡ sumBelow slots g =
         sum-ext slots after g λ slot hs. ap (λ (x : ℕ). entryAt tables 0 from x) (lacks-after slot hs (written-at slots sum thin slot hs)) in
         omega (arith, leb-true (sumBelow slots g) spare safe, same)

@@ -1,24 +1,20 @@
 -- The figures as the code comes by them.
 use mathlib.Core.Path.{_≡_, refl, sym, _∙_, ap}
-use mathlib.Core.Bool.{Bool, true, false, _&&_, not, cond}
+use mathlib.Core.Bool.{Bool, true, false, not, cond}
 use mathlib.Core.List.{List}
-use Prim.Native.Nat.{ℕ, zero, suc, _+_, _-_, _*_, _≤_, _<_}
+use Prim.Native.Nat.{ℕ, zero, suc, _+_, _≤_, _<_}
 use native.Mathlib.Decide.{ℕ-discrete}
 use native.Mathlib.Numerals.{add-one}
 use native.Mathlib.Nat.{not-suc-le-zero}
 use native.Mathlib.Omega.{arith}
 use borrow.Author.Tests.{lt-ltb, le-ltb, ltb-false, lt-leb, le-leb, eq-eqb, ne-eqb}
-use lib.Dec.{eqb, ltb, leb}
-use lib.ListN.{length, getD, set, replicate}
-use Rattle.lists.specs.Below.{sumBelow}
-use Rattle.lists.proofs.Below.{sum-more}
+use lib.Dec.{ltb, leb}
+use lib.ListN.{length, getD, replicate}
 use Rattle.constraint.specs.declared.check.Counts.{Counts}
 use Rattle.choice_sets.specs.Sets.{has, setOf, withChoice}
 use Rattle.choice_sets.proofs.SetLaws.{with-next, set-skip, set-none}
-use Rattle.weight_tables.specs.Tables.{written}
-use Rattle.weight_tables.proofs.TableLaws.{written-more}
 use Rattle.place_sets.specs.Domains.{settled}
-use Rattle.table_rule.specs.Figures.{freeOf, firstIn, settledIn, settledSum, lackOf, lacksOf, lacksIn}
+use Rattle.table_rule.specs.Figures.{freeOf, firstIn, lacksOf, lacksIn}
 
 -- a set with one choice more, or as it was
 pub if-out : (set choice : ℕ) (inside : Bool) → inside ≡ false → set ≡ cond inside (withChoice set choice) set
@@ -105,46 +101,6 @@ first-within n set from e = rw e (first-le n set)
 pub first-before : (n set from : ℕ) → from ≡ firstIn n set → (choice : ℕ) → choice < from → has set choice ≡ false
 first-before n set from e choice h = first-none n set choice (omega (arith, e, h))
 
--- what one choice brings to a slot
-module _ (free stands : Bool) (most : ℕ) where
-  pub part-free : free ≡ true → 0 ≡ cond (not free && stands) most 0
-  part-free t = rw t
-
-  pub part-elsewhere : stands ≡ false → 0 ≡ cond (not free && stands) most 0
-  part-elsewhere t = rw t (go free)
-    where
-      go : (f : Bool) → 0 ≡ cond (not f && false) most 0
-      go true = refl
-      go false = refl
-
-  pub part-in : (result : ℕ) → free ≡ false → stands ≡ true → result ≡ most → result ≡ cond (not free && stands) most 0
-  part-in result f s e = rw (f, s) e
-
--- the settled choices' maximums, one more
-pub settled-start : (maxs : List ℕ) (free : ℕ) (domains : List ℕ) (slot : ℕ) → 0 ≡ settledSum 0 maxs free domains slot
-unfolding settledSum sumBelow
-settled-start maxs free domains slot = refl
-
-pub settled-step : (maxs : List ℕ) (free : ℕ) (domains : List ℕ) (slot n sum part : ℕ) (f d : Bool) → sum ≡ settledSum n maxs free domains slot
-    → f ≡ has free n → d ≡ has (getD domains n 0) slot → part ≡ cond (not f && d) (getD maxs n 0) 0 → sum + part ≡ settledSum (n + 1) maxs free domains slot
-unfolding settledSum settledIn
-settled-step maxs free domains slot n sum part f d s a b p =
-    let term : ℕ → ℕ = λ choice. cond (not (has free choice) && has (getD domains choice 0) slot) (getD maxs choice 0) 0 in
-    let e : part ≡ term n = p ∙ ap (λ (x : Bool). cond (not x && d) (getD maxs n 0) 0) a ∙ ap (λ (x : Bool). cond (not (has free n) && x) (getD maxs n 0) 0) b in
-    ap (λ (x : ℕ). x + part) s ∙ ap (λ (x : ℕ). sumBelow n term + x) e ∙ sym (sum-more term n)
-
--- the lacks, one more
-pub lacks-step : (choices choosers : ℕ) (maxs : List ℕ) (free : ℕ) (domains : List ℕ) (slot sum lack : ℕ) (before lacks : List ℕ)
-    → lacks ≡ written slot 0 (lackOf choices choosers maxs free domains) before → sum ≡ settledSum choices maxs free domains slot → lack ≡ choosers - sum
-    → set lacks slot lack ≡ written (slot + 1) 0 (lackOf choices choosers maxs free domains) before
-unfolding lackOf
-lacks-step choices choosers maxs free domains slot sum lack before lacks l s k =
-    let f : ℕ → ℕ = lackOf choices choosers maxs free domains in
-    let e : lack ≡ f slot = k ∙ ap (λ (x : ℕ). choosers - x) s in
-    let z : slot ≡ 0 + slot = omega arith in
-    ap (λ (x : List ℕ). set x slot lack) l ∙ ap (λ (x : ℕ). set (written slot 0 f before) slot x) e
-    ∙ ap (λ (x : ℕ). set (written slot 0 f before) x (f slot)) z ∙ written-more 0 f before slot
-
 -- the free choices as other crates ask for them
 module _ (choices : ℕ) (domains : List ℕ) where
   pub free-many : 64 < choices → 0 ≡ cond (leb choices 64) (freeOf choices domains) 0
@@ -154,28 +110,21 @@ module _ (choices : ℕ) (domains : List ℕ) where
   free-few result h e = rw (le-leb _ _ h) e
 
 -- the lacks as other crates ask for them
-module _ (counts : Counts) (maxs : List ℕ) (free : ℕ) (domains none : List ℕ) (n : none ≡ replicate 24 0) where
-  pub lacks-many-choices : 64 < counts .choices → none ≡ lacksIn counts maxs free domains
+module _ (counts : Counts) (maxs domains : List ℕ) where
+  pub lacks-many-choices : (none : List ℕ) → none ≡ replicate 24 0 → 64 < counts .choices → none ≡ lacksIn counts maxs domains
   unfolding lacksIn
-  lacks-many-choices h = rw (lt-leb _ _ h) n
+  lacks-many-choices none n h = rw (lt-leb _ _ h) n
 
-  pub lacks-other-length : counts .choices ≤ 64 → (length maxs ≡ counts .choices → ⊥) → none ≡ lacksIn counts maxs free domains
+  pub lacks-other-length : (none : List ℕ) → none ≡ replicate 24 0 → counts .choices ≤ 64 → (length maxs ≡ counts .choices → ⊥) → none ≡ lacksIn counts maxs domains
   unfolding lacksIn
-  lacks-other-length h e = rw (le-leb _ _ h, ne-eqb _ _ e) n
+  lacks-other-length none n h e = rw (le-leb _ _ h, ne-eqb _ _ e) n
 
-  pub lacks-many-slots : counts .choices ≤ 64 → length maxs ≡ counts .choices → 24 < counts .slots → none ≡ lacksIn counts maxs free domains
+  pub lacks-many-slots : (none : List ℕ) → none ≡ replicate 24 0 → counts .choices ≤ 64 → length maxs ≡ counts .choices → 24 < counts .slots → none ≡ lacksIn counts maxs domains
   unfolding lacksIn
-  lacks-many-slots h e s = rw (le-leb _ _ h, eq-eqb _ _ e, lt-leb _ _ s) n
+  lacks-many-slots none n h e s = rw (le-leb _ _ h, eq-eqb _ _ e, lt-leb _ _ s) n
 
-  pub lacks-are : (lacks : List ℕ) → counts .choices ≤ 64 → length maxs ≡ counts .choices → counts .slots ≤ 24
-      → lacks ≡ written (counts .slots) 0 (lackOf (counts .choices) (counts .choosers) maxs free domains) none → lacks ≡ lacksIn counts maxs free domains
-  unfolding lacksIn lacksOf
-  lacks-are lacks h e s l =
-      rw (le-leb _ _ h, eq-eqb _ _ e, le-leb _ _ s)
-      (l ∙ ap (λ (x : List ℕ). written (counts .slots) 0 (lackOf (counts .choices) (counts .choosers) maxs free domains) x) n)
-
--- and of a day that has the shape they are the lacks
-pub lacks-in : (counts : Counts) (maxs : List ℕ) (free : ℕ) (domains : List ℕ) → counts .choices ≤ 64 → length maxs ≡ counts .choices → counts .slots ≤ 24
-    → lacksIn counts maxs free domains ≡ lacksOf (counts .slots) (counts .choices) (counts .choosers) maxs free domains
-unfolding lacksIn
-lacks-in counts maxs free domains h e s = rw (le-leb _ _ h, eq-eqb _ _ e, le-leb _ _ s)
+  -- and of a day that has the shape they are the lacks
+  pub lacks-in : counts .choices ≤ 64 → length maxs ≡ counts .choices → counts .slots ≤ 24
+      → lacksIn counts maxs domains ≡ lacksOf (counts .slots) (counts .choices) (counts .choosers) maxs (freeOf (counts .choices) domains) domains
+  unfolding lacksIn
+  lacks-in h e s = rw (le-leb _ _ h, eq-eqb _ _ e, le-leb _ _ s)

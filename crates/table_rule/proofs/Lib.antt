@@ -4,3 +4,4 @@ pub mod RuleLaws
 pub mod FillLaws
 pub mod WithinLaws
 pub mod EnoughPlaces
+pub mod SettledLaws

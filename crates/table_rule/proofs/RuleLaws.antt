@@ -2,25 +2,26 @@
 use mathlib.Core.Path.{_≡_, refl, sym, _∙_, ap}
 use mathlib.Core.Bool.{Bool, true, false, _&&_, not, cond}
 use mathlib.Core.List.{List}
-use Prim.Native.Nat.{ℕ, _+_, _-_, _*_, _≤_, _<_}
+use Prim.Native.Nat.{ℕ, zero, suc, _+_, _-_, _*_, _≤_, _<_, max}
+use native.Mathlib.Decide.{ℕ-discrete}
+use native.Mathlib.Nat.{not-suc-le-zero}
 use native.Mathlib.Numerals.{add-one}
 use native.Mathlib.Omega.{arith}
 use borrow.Author.Tests.{lt-ltb, le-ltb, le-leb, lt-leb, eq-eqb, ne-eqb}
 use lib.Dec.{eqb, ltb, leb}
-use lib.ListN.{length, getD, set, replicate}
+use lib.ListN.{length, getD, set}
 use Rattle.lists.specs.Below.{sumBelow}
 use Rattle.lists.proofs.Below.{sum-more}
 use Rattle.lists.proofs.SumBelow.{sum-ext}
 use Rattle.constraint.specs.declared.check.Counts.{Counts}
 use Rattle.choice_sets.specs.Sets.{has, setOf}
-use Rattle.weight_tables.specs.Weights.{weightOf, largestWeight}
-use Rattle.weight_tables.specs.Tables.{tablesFit, written}
+use Rattle.weight_tables.specs.Tables.{tablesFit}
 use Rattle.weight_tables.proofs.WeightLaws.{below-zeros}
-use Rattle.weight_tables.proofs.TableLaws.{weight-largest}
 use Rattle.place_sets.specs.Domains.{eachBelow}
 use Rattle.place_sets.proofs.DomainLaws.{each-at, each-same}
-use Rattle.table_rule.specs.Figures.{freeOf, firstIn, lackOf, lacksOf}
-use Rattle.table_rule.specs.Rule.{needOf, spareOf, slotKept, leftOf, tableRule, tablesBelow, fiveTables, tablesRule}
+use Rattle.table_rule.specs.Figures.{freeOf, firstIn, lacksOf}
+use Rattle.table_rule.specs.Rule.{needOf, spareOf, slotKept, leftOf, tableRule, tablesBelow, fourTables, tablesRule}
+use Rattle.table_rule.specs.steps.Heaviest.{heaviestOf}
 use Rattle.table_rule.proofs.FigureLaws.{first-before}
 
 -- a free choice's weight
@@ -30,30 +31,56 @@ weight-none free x t = rw t
 pub weight-some : (free : Bool) (x result : ℕ) → free ≡ true → result ≡ x → result ≡ cond free x 0
 weight-some free x result t e = rw t e
 
--- what the free choices weigh: nothing before the first of them, then one more
-pub spare-start : (choices choosers : ℕ) (maxs : List ℕ) (table free from : ℕ) → from ≡ firstIn choices free → 0 ≡ spareOf from choosers maxs table free
-unfolding spareOf
-spare-start choices choosers maxs table free from e =
-    let f : ℕ → ℕ = λ choice. cond (has free choice) (weightOf choosers table (getD maxs choice 0)) 0 in
-    sym
-    (sum-ext from f (λ k. 0) (λ k h. ap (λ (b : Bool). cond b (weightOf choosers table (getD maxs k 0)) 0) (first-before choices free from e k h))
-    ∙ below-zeros from)
+module _ (weight : ℕ → ℕ → ℕ) (table free : ℕ) where
+  -- what the free choices weigh: nothing before the first of them, then one more
+  pub spare-start : (choices from : ℕ) → from ≡ firstIn choices free → 0 ≡ spareOf from weight table free
+  unfolding spareOf
+  spare-start choices from e =
+      let f : ℕ → ℕ = λ choice. cond (has free choice) (weight table choice) 0 in
+      sym
+      (sum-ext from f (λ k. 0) (λ k h. ap (λ (b : Bool). cond b (weight table k) 0) (first-before choices free from e k h))
+      ∙ below-zeros from)
 
-pub spare-step : (choosers : ℕ) (maxs : List ℕ) (table free n spare part : ℕ) (inside : Bool) → spare ≡ spareOf n choosers maxs table free → inside ≡ has free n
-    → part ≡ cond inside (weightOf choosers table (getD maxs n 0)) 0 → spare + part ≡ spareOf (n + 1) choosers maxs table free
-unfolding spareOf
-spare-step choosers maxs table free n spare part inside s i p =
-    let f : ℕ → ℕ = λ choice. cond (has free choice) (weightOf choosers table (getD maxs choice 0)) 0 in
-    ap (λ (x : ℕ). x + part) s ∙ ap (λ (x : ℕ). sumBelow n f + x) (p ∙ ap (λ (b : Bool). cond b (weightOf choosers table (getD maxs n 0)) 0) i) ∙ sym (sum-more f n)
+  pub spare-step : (n spare part : ℕ) (inside : Bool) → spare ≡ spareOf n weight table free → inside ≡ has free n
+      → part ≡ cond inside (weight table n) 0 → spare + part ≡ spareOf (n + 1) weight table free
+  unfolding spareOf
+  spare-step n spare part inside s i p =
+      let f : ℕ → ℕ = λ choice. cond (has free choice) (weight table choice) 0 in
+      ap (λ (x : ℕ). x + part) s ∙ ap (λ (x : ℕ). sumBelow n f + x) (p ∙ ap (λ (b : Bool). cond b (weight table n) 0) i) ∙ sym (sum-more f n)
+
+  -- the heaviest of them: none before the first, then one more
+  none-heavy : (n : ℕ) → ((k : ℕ) → k < n → has free k ≡ false) → heaviestOf n weight table free ≡ 0
+  unfolding heaviestOf
+  none-heavy zero h = refl
+  none-heavy (suc n) h = rw (none-heavy n (λ k hk. h k (omega arith)), h n (omega arith))
+
+  pub heaviest-start : (choices from : ℕ) → from ≡ firstIn choices free → 0 ≡ heaviestOf from weight table free
+  heaviest-start choices from e = sym (none-heavy from λ k h. first-before choices free from e k h)
+
+  pub heaviest-step : (n heaviest part result : ℕ) (inside : Bool) → heaviest ≡ heaviestOf n weight table free → inside ≡ has free n
+      → part ≡ cond inside (weight table n) 0 → result ≡ max heaviest part → result ≡ heaviestOf (n + 1) weight table free
+  unfolding heaviestOf
+  heaviest-step n heaviest part result inside h i p r =
+      rw add-one
+      (r ∙ ap (λ (x : ℕ). max x part) h
+      ∙ ap (λ (x : ℕ). max (heaviestOf n weight table free) x) (p ∙ ap (λ (b : Bool). cond b (weight table n) 0) i))
+
+  -- no free choice weighs more
+  pub heaviest-most : (n choice : ℕ) → choice < n → has free choice ≡ true → weight table choice ≤ heaviestOf n weight table free
+  unfolding heaviestOf
+  heaviest-most zero choice h t = absurd (not-suc-le-zero h)
+  heaviest-most (suc n) choice h t = go (ℕ-discrete choice n) (heaviest-most n choice)
+    where
+      go : Dec (choice ≡ n) → (choice < n → has free choice ≡ true → weight table choice ≤ heaviestOf n weight table free)
+          → weight table choice ≤ max (heaviestOf n weight table free) (cond (has free n) (weight table n) 0)
+      go (yes e) ih =
+          let w : weight table choice ≡ weight table n = ap (weight table) e in
+          rw (sym (ap (has free) e) ∙ t) (omega (arith, w))
+      go (no q) ih = omega (arith, ih (omega (arith, q)) t)
 
 -- a choice that isn't free keeps its domain
 pub next-same : (free : Bool) (x domain : ℕ) → free ≡ false → domain ≡ cond free x domain
 next-same free x domain t = rw t
-
--- of two that are the same either is the second
-cond-same : (b : Bool) (x y : ℕ) → x ≡ y → cond b x y ≡ y
-cond-same true x y e = e
-cond-same false x y e = refl
 
 module _ (entry : ℕ → ℕ → ℕ → ℕ) where
   -- what the lacks weigh, one slot more
@@ -95,40 +122,41 @@ module _ (entry : ℕ → ℕ → ℕ → ℕ) where
     left-some h n = rw (lt-leb _ _ h, le-ltb _ _ n)
 
   -- one choice's domain
-  pub next-left : (free : Bool) (slots choosers table from : ℕ) (lacks : List ℕ) (need spare most domain weight wide result : ℕ) → free ≡ true
-      → weight ≡ weightOf choosers table most → wide ≡ most → result ≡ leftOf entry slots table from lacks weight wide need spare domain
-      → result ≡ cond free (leftOf entry slots table from lacks (weightOf choosers table most) most need spare domain) domain
-  next-left free slots choosers table from lacks need spare most domain weight wide result t w m r =
+  pub next-left : (free : Bool) (slots table from : ℕ) (lacks : List ℕ) (need spare heavy most domain weight wide result : ℕ) → free ≡ true
+      → weight ≡ heavy → wide ≡ most → result ≡ leftOf entry slots table from lacks weight wide need spare domain
+      → result ≡ cond free (leftOf entry slots table from lacks heavy most need spare domain) domain
+  next-left free slots table from lacks need spare heavy most domain weight wide result t w m r =
       r ∙ ap (λ (x : ℕ). leftOf entry slots table from lacks x wide need spare domain) w
-      ∙ ap (λ (x : ℕ). leftOf entry slots table from lacks (weightOf choosers table most) x need spare domain) m
-      ∙ sym (ap (λ (b : Bool). cond b (leftOf entry slots table from lacks (weightOf choosers table most) most need spare domain) domain) t)
+      ∙ ap (λ (x : ℕ). leftOf entry slots table from lacks heavy x need spare domain) m
+      ∙ sym (ap (λ (b : Bool). cond b (leftOf entry slots table from lacks heavy most need spare domain) domain) t)
 
+module _ (entry : ℕ → ℕ → ℕ → ℕ) (weight : ℕ → ℕ → ℕ) where
   -- the domains by one table's rule
   module _ (counts : Counts) (maxs : List ℕ) (table free from : ℕ) (lacks : List ℕ) where
     -- a choice that isn't free keeps its domain
-    rule-settled : (choice domain : ℕ) → has free choice ≡ false → tableRule entry counts maxs table free from lacks choice domain ≡ domain
+    rule-settled : (choice domain : ℕ) → has free choice ≡ false → tableRule entry weight counts maxs table free from lacks choice domain ≡ domain
     unfolding tableRule
     rule-settled choice domain t = rw t
 
     -- up to the first free choice they are as they were, then one choice more
-    pub once-start : (domains : List ℕ) → from ≡ firstIn (counts .choices) free → domains ≡ eachBelow from (tableRule entry counts maxs table free from lacks) domains
+    pub once-start : (domains : List ℕ) → from ≡ firstIn (counts .choices) free → domains ≡ eachBelow from (tableRule entry weight counts maxs table free from lacks) domains
     once-start domains e =
         sym
-        (each-same from (tableRule entry counts maxs table free from lacks) domains λ choice h.
+        (each-same from (tableRule entry weight counts maxs table free from lacks) domains λ choice h.
         rule-settled choice (getD domains choice 0) (first-before (counts .choices) free from e choice h))
 
-    pub once-step : (before domains : List ℕ) (n need spare result : ℕ) (inside : Bool) → domains ≡ eachBelow n (tableRule entry counts maxs table free from lacks) before
-        → n < length before → need ≡ needOf entry (counts .slots) table from lacks → spare ≡ spareOf (counts .choices) (counts .choosers) maxs table free
+    pub once-step : (before domains : List ℕ) (n need spare result : ℕ) (inside : Bool) → domains ≡ eachBelow n (tableRule entry weight counts maxs table free from lacks) before
+        → n < length before → need ≡ needOf entry (counts .slots) table from lacks → spare ≡ spareOf (counts .choices) weight table free
         → inside ≡ has free n
-        → result ≡ cond inside (leftOf entry (counts .slots) table from lacks (weightOf (counts .choosers) table (getD maxs n 0)) (getD maxs n 0) need spare (getD domains n 0)) (getD domains n 0)
-        → set domains n result ≡ eachBelow (n + 1) (tableRule entry counts maxs table free from lacks) before
+        → result ≡ cond inside (leftOf entry (counts .slots) table from lacks (weight table n) (getD maxs n 0) need spare (getD domains n 0)) (getD domains n 0)
+        → set domains n result ≡ eachBelow (n + 1) (tableRule entry weight counts maxs table free from lacks) before
     unfolding tableRule eachBelow
     once-step before domains n need spare result inside d h q s i r =
-        let rule : ℕ → ℕ → ℕ = tableRule entry counts maxs table free from lacks in
+        let rule : ℕ → ℕ → ℕ = tableRule entry weight counts maxs table free from lacks in
         let at : getD domains n 0 ≡ getD before n 0 =
         ap (λ (x : List ℕ). getD x n 0) d ∙ each-at n rule before n (omega arith)
         ∙ ap (λ (b : Bool). cond b (rule n (getD before n 0)) (getD before n 0)) (le-ltb n n (omega arith)) in
-        let w : ℕ = weightOf (counts .choosers) table (getD maxs n 0) in
+        let w : ℕ = weight table n in
         let m : ℕ = getD maxs n 0 in
         let e : result ≡ rule n (getD before n 0) =
         r
@@ -138,73 +166,72 @@ module _ (entry : ℕ → ℕ → ℕ → ℕ) where
         ∙ ap (λ (x : ℕ). cond (has free n) (leftOf entry (counts .slots) table from lacks w m (needOf entry (counts .slots) table from lacks) x (getD before n 0)) (getD before n 0)) s in
         rw add-one (ap (λ (x : List ℕ). set x n result) d ∙ ap (λ (x : ℕ). set (eachBelow n rule before) n x) e)
 
-    -- a table that can do without any one choice leaves every domain
-    rule-keeps : (choice domain : ℕ)
-        → needOf entry (counts .slots) table from lacks + largestWeight (counts .choosers) table ≤ spareOf (counts .choices) (counts .choosers) maxs table free
-        → tableRule entry counts maxs table free from lacks choice domain ≡ domain
+    -- a table that can do without the heaviest choice leaves every domain
+    rule-keeps : (choice domain : ℕ) → choice < counts .choices
+        → needOf entry (counts .slots) table from lacks + heaviestOf (counts .choices) weight table free ≤ spareOf (counts .choices) weight table free
+        → tableRule entry weight counts maxs table free from lacks choice domain ≡ domain
     unfolding tableRule
-    rule-keeps choice domain h =
-        let m : ℕ = getD maxs choice 0 in
-        let w : ℕ = weightOf (counts .choosers) table m in
-        let need : ℕ = needOf entry (counts .slots) table from lacks in
-        let spare : ℕ = spareOf (counts .choices) (counts .choosers) maxs table free in
-        let l : w ≤ largestWeight (counts .choosers) table = weight-largest (counts .choosers) table m in
-        cond-same (has free choice) (leftOf entry (counts .slots) table from lacks w m need spare domain) domain
-        (sym (left-all (counts .slots) table from lacks w m need spare domain (omega (arith, h, l))))
+    rule-keeps choice domain under h = go (has free choice) refl
+      where
+        go : (b : Bool) → has free choice ≡ b
+            → cond b
+            (leftOf entry (counts .slots) table from lacks (weight table choice) (getD maxs choice 0)
+            (needOf entry (counts .slots) table from lacks) (spareOf (counts .choices) weight table free) domain)
+            domain
+            ≡ domain
+        go true t =
+            let l : weight table choice ≤ heaviestOf (counts .choices) weight table free = heaviest-most weight table free (counts .choices) choice under t in
+            sym
+            (left-all entry (counts .slots) table from lacks (weight table choice) (getD maxs choice 0)
+            (needOf entry (counts .slots) table from lacks) (spareOf (counts .choices) weight table free) domain (omega (arith, h, l)))
+        go false t = refl
 
-    pub once-spared : (domains : List ℕ) (need spare largest : ℕ) → need ≡ needOf entry (counts .slots) table from lacks
-        → spare ≡ spareOf (counts .choices) (counts .choosers) maxs table free → largest ≡ largestWeight (counts .choosers) table → need + largest ≤ spare
-        → domains ≡ eachBelow (counts .choices) (tableRule entry counts maxs table free from lacks) domains
-    once-spared domains need spare largest n s l h =
-        sym (each-same (counts .choices) (tableRule entry counts maxs table free from lacks) domains λ i under. rule-keeps i (getD domains i 0) (omega (arith, n, s, l, h)))
+    pub once-spared : (domains : List ℕ) (need spare heaviest : ℕ) → need ≡ needOf entry (counts .slots) table from lacks
+        → spare ≡ spareOf (counts .choices) weight table free → heaviest ≡ heaviestOf (counts .choices) weight table free → need + heaviest ≤ spare
+        → domains ≡ eachBelow (counts .choices) (tableRule entry weight counts maxs table free from lacks) domains
+    once-spared domains need spare heaviest n s l h =
+        sym (each-same (counts .choices) (tableRule entry weight counts maxs table free from lacks) domains λ i under. rule-keeps i (getD domains i 0) under (omega (arith, n, s, l, h)))
 
-    -- the tables, one more
-    pub each-start : (domains : List ℕ) → domains ≡ tablesBelow entry counts maxs free from lacks 0 domains
-    unfolding tablesBelow
-    each-start domains = refl
-
-  pub each-step : (counts : Counts) (maxs : List ℕ) (free from : ℕ) (lacks before domains after : List ℕ) (table : ℕ) → domains ≡ tablesBelow entry counts maxs free from lacks table before
-      → after ≡ eachBelow (counts .choices) (tableRule entry counts maxs table free from lacks) domains
-      → after ≡ tablesBelow entry counts maxs free from lacks (table + 1) before
+  -- the tables, one more
+  pub each-step : (counts : Counts) (maxs : List ℕ) (free from : ℕ) (lacks before domains after : List ℕ) (table : ℕ) → domains ≡ tablesBelow entry weight counts maxs free from lacks table before
+      → after ≡ eachBelow (counts .choices) (tableRule entry weight counts maxs table free from lacks) domains
+      → after ≡ tablesBelow entry weight counts maxs free from lacks (table + 1) before
   unfolding tablesBelow
   each-step counts maxs free from lacks before domains after table d a =
-      rw add-one (a ∙ ap (λ (x : List ℕ). eachBelow (counts .choices) (tableRule entry counts maxs table free from lacks) x) d)
+      rw add-one (a ∙ ap (λ (x : List ℕ). eachBelow (counts .choices) (tableRule entry weight counts maxs table free from lacks) x) d)
 
-  -- the five tables by the figures
-  pub five-are : (counts : Counts) (maxs domains : List ℕ) (free from : ℕ) (none lacks after : List ℕ) → free ≡ freeOf (counts .choices) domains
-      → from ≡ firstIn (counts .choices) free → none ≡ replicate 24 0
-      → lacks ≡ written (counts .slots) 0 (lackOf (counts .choices) (counts .choosers) maxs free domains) none
-      → after ≡ tablesBelow entry counts maxs free from lacks 5 domains → after ≡ fiveTables entry counts maxs domains
-  unfolding fiveTables lacksOf
-  five-are counts maxs domains free from none lacks after f g n l a =
+  -- the four tables by the figures
+  pub four-are : (counts : Counts) (maxs domains : List ℕ) (free from : ℕ) (lacks after : List ℕ) → free ≡ freeOf (counts .choices) domains
+      → from ≡ firstIn (counts .choices) free
+      → lacks ≡ lacksOf (counts .slots) (counts .choices) (counts .choosers) maxs (freeOf (counts .choices) domains) domains
+      → after ≡ tablesBelow entry weight counts maxs free from lacks 4 domains → after ≡ fourTables entry weight counts maxs domains
+  unfolding fourTables
+  four-are counts maxs domains free from lacks after f g l a =
       let free' : ℕ = freeOf (counts .choices) domains in
       let from' : from ≡ firstIn (counts .choices) free' = g ∙ ap (λ (x : ℕ). firstIn (counts .choices) x) f in
-      let lacks' : lacks ≡ written (counts .slots) 0 (lackOf (counts .choices) (counts .choosers) maxs free' domains) (replicate 24 0) =
-      l ∙ ap (λ (x : List ℕ). written (counts .slots) 0 (lackOf (counts .choices) (counts .choosers) maxs free domains) x) n
-      ∙ ap (λ (x : ℕ). written (counts .slots) 0 (lackOf (counts .choices) (counts .choosers) maxs x domains) (replicate 24 0)) f in
-      a ∙ ap (λ (x : ℕ). tablesBelow entry counts maxs x from lacks 5 domains) f
-      ∙ ap (λ (x : ℕ). tablesBelow entry counts maxs free' x lacks 5 domains) from'
-      ∙ ap (λ (x : List ℕ). tablesBelow entry counts maxs free' (firstIn (counts .choices) free') x 5 domains) lacks'
+      a ∙ ap (λ (x : ℕ). tablesBelow entry weight counts maxs x from lacks 4 domains) f
+      ∙ ap (λ (x : ℕ). tablesBelow entry weight counts maxs free' x lacks 4 domains) from'
+      ∙ ap (λ (x : List ℕ). tablesBelow entry weight counts maxs free' (firstIn (counts .choices) free') x 4 domains) l
 
   -- the call
   module _ (counts : Counts) (maxs domains : List ℕ) where
-    pub rule-many-choices : 64 < counts .choices → domains ≡ tablesRule entry counts maxs domains
+    pub rule-many-choices : 64 < counts .choices → domains ≡ tablesRule entry weight counts maxs domains
     unfolding tablesRule tablesFit
     rule-many-choices h = rw (lt-leb _ _ h)
 
-    pub rule-many-choosers : counts .choices ≤ 64 → 200 < counts .choosers → domains ≡ tablesRule entry counts maxs domains
+    pub rule-many-choosers : counts .choices ≤ 64 → 200 < counts .choosers → domains ≡ tablesRule entry weight counts maxs domains
     unfolding tablesRule tablesFit
     rule-many-choosers c h = rw (le-leb _ _ c, lt-leb _ _ h)
 
-    pub rule-other-length : counts .choices ≤ 64 → counts .choosers ≤ 200 → (length maxs ≡ counts .choices → ⊥) → domains ≡ tablesRule entry counts maxs domains
+    pub rule-other-length : counts .choices ≤ 64 → counts .choosers ≤ 200 → (length maxs ≡ counts .choices → ⊥) → domains ≡ tablesRule entry weight counts maxs domains
     unfolding tablesRule tablesFit
     rule-other-length c h n = rw (le-leb _ _ c, le-leb _ _ h, ne-eqb _ _ n)
 
-    pub rule-many-slots : counts .choices ≤ 64 → counts .choosers ≤ 200 → length maxs ≡ counts .choices → 24 < counts .slots → domains ≡ tablesRule entry counts maxs domains
+    pub rule-many-slots : counts .choices ≤ 64 → counts .choosers ≤ 200 → length maxs ≡ counts .choices → 24 < counts .slots → domains ≡ tablesRule entry weight counts maxs domains
     unfolding tablesRule tablesFit
     rule-many-slots c h n s = rw (le-leb _ _ c, le-leb _ _ h, eq-eqb _ _ n, lt-leb _ _ s)
 
     pub rule-fits : (after : List ℕ) → counts .choices ≤ 64 → counts .choosers ≤ 200 → length maxs ≡ counts .choices → counts .slots ≤ 24
-        → after ≡ fiveTables entry counts maxs domains → after ≡ tablesRule entry counts maxs domains
+        → after ≡ fourTables entry weight counts maxs domains → after ≡ tablesRule entry weight counts maxs domains
     unfolding tablesRule tablesFit
     rule-fits after c h n s e = rw (le-leb _ _ c, le-leb _ _ h, eq-eqb _ _ n, le-leb _ _ s) e

@@ -18,15 +18,15 @@ use Rattle.scheduling.specs.Plan.{slotOf, standsIn, sumUpTo, sumIn}
 use Rattle.scheduling.specs.Feasible.{feasible}
 use Rattle.scheduling.proofs.Meaning.{Feasible, Placed, feasible-means}
 use Rattle.plan_rows.proofs.PlanLaws.{stands-omitted, stands-by}
-use Rattle.weight_tables.specs.Weights.{weightOf, least, leastOf, sumFrom}
-use Rattle.weight_tables.specs.Tables.{tablesFit, Filled, entryAt, written}
+use Rattle.weight_tables.specs.Weights.{least, leastOf, sumFrom}
+use Rattle.weight_tables.specs.Tables.{tablesFit, Filled, entryAt, weightAt, written}
 use Rattle.weight_tables.proofs.WeightLaws.{sum-join, from-ext, below-le, below-add, below-zeros}
 use Rattle.weight_tables.proofs.TableLaws.{written-in, entry-least}
 use Rattle.weight_tables.proofs.EnoughLaws.{stands-only}
 use Rattle.place_sets.specs.Domains.{placeNumber, Within, eachBelow}
 use Rattle.place_sets.proofs.DomainLaws.{number-in, number-out, each-length, each-within}
 use Rattle.table_rule.specs.Figures.{freeOf, firstIn, settledIn, settledSum, lackOf, lacksOf}
-use Rattle.table_rule.specs.Rule.{needOf, spareOf, slotKept, leftOf, tableRule, tablesBelow, fiveTables, tablesRule}
+use Rattle.table_rule.specs.Rule.{needOf, spareOf, slotKept, leftOf, tableRule, tablesBelow, fourTables, tablesRule}
 use Rattle.table_rule.proofs.FigureLaws.{first-le, first-none}
 use Rattle.table_rule.proofs.FillLaws.{lacks-weigh, one-out, change-one}
 
@@ -85,15 +85,15 @@ module _ (day : Day) (plan : List ℕ) (feasibly : feasible day plan ≡ true) (
       let z : sumBelow from b ≡ 0 = sum-ext from b (λ k. 0) (λ k hk. rw (before k hk)) ∙ below-zeros from in
       omega (arith, h, h2, p, q, j, z)
 
-  module _ (table : ℕ) where
+  module _ (weight : ℕ → ℕ → ℕ) (table : ℕ) where
     abbrev heavy : ℕ → ℕ
-    heavy choice = weightOf (day .counts .choosers) table (getD (day .maxs) choice 0)
+    heavy choice = weight table choice
 
     abbrev lacking : ℕ → ℕ
     lacking slot = lackOf (day .counts .choices) (day .counts .choosers) (day .maxs) free domains slot
 
     -- the spare weight is that of the free choices from the first on
-    pub spare-is : spareOf (day .counts .choices) (day .counts .choosers) (day .maxs) table free
+    pub spare-is : spareOf (day .counts .choices) weight table free
         ≡ sumFrom from (day .counts .choices - from) λ choice. cond (has free choice) (heavy choice) 0
     unfolding spareOf
     spare-is =
@@ -105,8 +105,8 @@ module _ (day : Day) (plan : List ℕ) (feasibly : feasible day plan ≡ true) (
         omega (arith, j, z)
 
     -- all lacks together weigh no more than what is spare
-    pub need-fits : sumBelow (day .counts .slots) (λ slot. leastOf (day .counts) (day .maxs) table from (lacking slot))
-        ≤ spareOf (day .counts .choices) (day .counts .choosers) (day .maxs) table free
+    pub need-fits : sumBelow (day .counts .slots) (λ slot. leastOf weight (day .counts) (day .maxs) table from (lacking slot))
+        ≤ spareOf (day .counts .choices) weight table free
     unfolding leastOf
     need-fits =
         rw spare-is
@@ -115,8 +115,8 @@ module _ (day : Day) (plan : List ℕ) (feasibly : feasible day plan ≡ true) (
 
     -- and a free choice's weight fits besides, where its own slot lacks its maximum less
     pub choice-fits : (i : ℕ) → i < day .counts .choices → has free i ≡ true
-        → heavy i + sumBelow (day .counts .slots) (λ slot. leastOf (day .counts) (day .maxs) table from (lacking slot - cond (standsIn plan i slot) (getD (day .maxs) i 0) 0))
-        ≤ spareOf (day .counts .choices) (day .counts .choosers) (day .maxs) table free
+        → heavy i + sumBelow (day .counts .slots) (λ slot. leastOf weight (day .counts) (day .maxs) table from (lacking slot - cond (standsIn plan i slot) (getD (day .maxs) i 0) 0))
+        ≤ spareOf (day .counts .choices) weight table free
     unfolding leastOf
     choice-fits i hi t =
         let count : ℕ = day .counts .choices - from in
@@ -150,32 +150,32 @@ module _ (day : Day) (plan : List ℕ) (feasibly : feasible day plan ≡ true) (
             omega (arith, f, s, x, bi)
 
     -- what is left of a free choice's domain keeps the plan's place
-    module _ (entry : ℕ → ℕ → ℕ → ℕ) (lacks : List ℕ) (least-entry : (lack : ℕ) → lack ≤ day .counts .choosers → entry table from lack ≡ leastOf (day .counts) (day .maxs) table from lack)
+    module _ (entry : ℕ → ℕ → ℕ → ℕ) (lacks : List ℕ) (least-entry : (lack : ℕ) → lack ≤ day .counts .choosers → entry table from lack ≡ leastOf weight (day .counts) (day .maxs) table from lack)
         (lacks-are : (slot : ℕ) → slot < day .counts .slots → getD lacks slot 0 ≡ lacking slot) where
       -- an entry read at a slot's lack, with some of it taken off
-      entry-is : (slot taken : ℕ) → slot < day .counts .slots → entry table from (getD lacks slot 0 - taken) ≡ leastOf (day .counts) (day .maxs) table from (lacking slot - taken)
+      entry-is : (slot taken : ℕ) → slot < day .counts .slots → entry table from (getD lacks slot 0 - taken) ≡ leastOf weight (day .counts) (day .maxs) table from (lacking slot - taken)
       unfolding lackOf
       entry-is slot taken hs =
           let h : getD lacks slot 0 ≤ day .counts .choosers = rw (lacks-are slot hs) (omega arith) in
           least-entry (getD lacks slot 0 - taken) (omega (arith, h))
-          ∙ ap (λ (x : ℕ). leastOf (day .counts) (day .maxs) table from (x - taken)) (lacks-are slot hs)
+          ∙ ap (λ (x : ℕ). leastOf weight (day .counts) (day .maxs) table from (x - taken)) (lacks-are slot hs)
 
-      entry-whole : (slot : ℕ) → slot < day .counts .slots → entry table from (getD lacks slot 0) ≡ leastOf (day .counts) (day .maxs) table from (lacking slot)
+      entry-whole : (slot : ℕ) → slot < day .counts .slots → entry table from (getD lacks slot 0) ≡ leastOf weight (day .counts) (day .maxs) table from (lacking slot)
       unfolding lackOf
       entry-whole slot hs =
           let h : getD lacks slot 0 ≤ day .counts .choosers = rw (lacks-are slot hs) (omega arith) in
-          least-entry (getD lacks slot 0) h ∙ ap (λ (x : ℕ). leastOf (day .counts) (day .maxs) table from x) (lacks-are slot hs)
+          least-entry (getD lacks slot 0) h ∙ ap (λ (x : ℕ). leastOf weight (day .counts) (day .maxs) table from x) (lacks-are slot hs)
 
       abbrev needed : ℕ
       needed = needOf entry (day .counts .slots) table from lacks
 
       abbrev spared : ℕ
-      spared = spareOf (day .counts .choices) (day .counts .choosers) (day .maxs) table free
+      spared = spareOf (day .counts .choices) weight table free
 
-      need-is : needed ≡ sumBelow (day .counts .slots) λ slot. leastOf (day .counts) (day .maxs) table from (lacking slot)
+      need-is : needed ≡ sumBelow (day .counts .slots) λ slot. leastOf weight (day .counts) (day .maxs) table from (lacking slot)
       unfolding needOf
       need-is =
-          sum-ext (day .counts .slots) (λ slot. entry table from (getD lacks slot 0)) (λ slot. leastOf (day .counts) (day .maxs) table from (lacking slot)) entry-whole
+          sum-ext (day .counts .slots) (λ slot. entry table from (getD lacks slot 0)) (λ slot. leastOf weight (day .counts) (day .maxs) table from (lacking slot)) entry-whole
 
       need-within : needed ≤ spared
       need-within = omega (arith, need-is, need-fits)
@@ -184,12 +184,12 @@ module _ (day : Day) (plan : List ℕ) (feasibly : feasible day plan ≡ true) (
         -- an omitted choice is not needed
         omitted-fits : slotOf plan i ≡ 255 → heavy i + needed ≤ spared
         omitted-fits o =
-            let e : sumBelow (day .counts .slots) (λ slot. leastOf (day .counts) (day .maxs) table from (lacking slot - cond (standsIn plan i slot) (getD (day .maxs) i 0) 0))
-            ≡ sumBelow (day .counts .slots) (λ slot. leastOf (day .counts) (day .maxs) table from (lacking slot)) =
-            sum-ext (day .counts .slots) (λ slot. leastOf (day .counts) (day .maxs) table from (lacking slot - cond (standsIn plan i slot) (getD (day .maxs) i 0) 0))
-            (λ slot. leastOf (day .counts) (day .maxs) table from (lacking slot))
-            λ slot hs. ap (λ (b : Bool). leastOf (day .counts) (day .maxs) table from (lacking slot - cond b (getD (day .maxs) i 0) 0)) (stands-omitted plan i slot o)
-            ∙ ap (λ (x : ℕ). leastOf (day .counts) (day .maxs) table from x) (minus-none (lacking slot)) in
+            let e : sumBelow (day .counts .slots) (λ slot. leastOf weight (day .counts) (day .maxs) table from (lacking slot - cond (standsIn plan i slot) (getD (day .maxs) i 0) 0))
+            ≡ sumBelow (day .counts .slots) (λ slot. leastOf weight (day .counts) (day .maxs) table from (lacking slot)) =
+            sum-ext (day .counts .slots) (λ slot. leastOf weight (day .counts) (day .maxs) table from (lacking slot - cond (standsIn plan i slot) (getD (day .maxs) i 0) 0))
+            (λ slot. leastOf weight (day .counts) (day .maxs) table from (lacking slot))
+            λ slot hs. ap (λ (b : Bool). leastOf weight (day .counts) (day .maxs) table from (lacking slot - cond b (getD (day .maxs) i 0) 0)) (stands-omitted plan i slot o)
+            ∙ ap (λ (x : ℕ). leastOf weight (day .counts) (day .maxs) table from x) (minus-none (lacking slot)) in
             omega (arith, choice-fits i hi t, e, need-is)
           where
             minus-none : (x : ℕ) → x - 0 ≡ x
@@ -199,8 +199,8 @@ module _ (day : Day) (plan : List ℕ) (feasibly : feasible day plan ≡ true) (
         slot-fits : (p : ℕ) → p < day .counts .slots → slotOf plan i ≡ p → (p ≡ 255 → ⊥)
             → heavy i + entry table from (getD lacks p 0 - getD (day .maxs) i 0) + needed ≤ spared + entry table from (getD lacks p 0)
         slot-fits p hp e n =
-            let f : ℕ → ℕ = λ slot. leastOf (day .counts) (day .maxs) table from (lacking slot - cond (standsIn plan i slot) (getD (day .maxs) i 0) 0) in
-            let g : ℕ → ℕ = λ slot. leastOf (day .counts) (day .maxs) table from (lacking slot) in
+            let f : ℕ → ℕ = λ slot. leastOf weight (day .counts) (day .maxs) table from (lacking slot - cond (standsIn plan i slot) (getD (day .maxs) i 0) 0) in
+            let g : ℕ → ℕ = λ slot. leastOf weight (day .counts) (day .maxs) table from (lacking slot) in
             let c : sumBelow (day .counts .slots) f + g p ≡ sumBelow (day .counts .slots) g + f p = change-one (day .counts .slots) f g p hp other in
             let fp : f p ≡ entry table from (getD lacks p 0 - getD (day .maxs) i 0) = here ∙ sym (entry-is p (getD (day .maxs) i 0) hp) in
             let gp : g p ≡ entry table from (getD lacks p 0) = sym (entry-whole p hp) in
@@ -209,18 +209,18 @@ module _ (day : Day) (plan : List ℕ) (feasibly : feasible day plan ≡ true) (
             by : (slot : ℕ) → standsIn plan i slot ≡ eqb (slotOf plan i) slot
             by slot = stands-by plan i slot (λ z. n (sym e ∙ z))
 
-            here : leastOf (day .counts) (day .maxs) table from (lacking p - cond (standsIn plan i p) (getD (day .maxs) i 0) 0)
-                ≡ leastOf (day .counts) (day .maxs) table from (lacking p - getD (day .maxs) i 0)
-            here = ap (λ (b : Bool). leastOf (day .counts) (day .maxs) table from (lacking p - cond b (getD (day .maxs) i 0) 0)) (by p ∙ eq-eqb (slotOf plan i) p e)
+            here : leastOf weight (day .counts) (day .maxs) table from (lacking p - cond (standsIn plan i p) (getD (day .maxs) i 0) 0)
+                ≡ leastOf weight (day .counts) (day .maxs) table from (lacking p - getD (day .maxs) i 0)
+            here = ap (λ (b : Bool). leastOf weight (day .counts) (day .maxs) table from (lacking p - cond b (getD (day .maxs) i 0) 0)) (by p ∙ eq-eqb (slotOf plan i) p e)
 
             minus-none : (x : ℕ) → x - 0 ≡ x
             minus-none x = omega arith
 
             other : (slot : ℕ) → slot < day .counts .slots → (slot ≡ p → ⊥)
-                → leastOf (day .counts) (day .maxs) table from (lacking slot - cond (standsIn plan i slot) (getD (day .maxs) i 0) 0) ≡ leastOf (day .counts) (day .maxs) table from (lacking slot)
+                → leastOf weight (day .counts) (day .maxs) table from (lacking slot - cond (standsIn plan i slot) (getD (day .maxs) i 0) 0) ≡ leastOf weight (day .counts) (day .maxs) table from (lacking slot)
             other slot hs q =
-                ap (λ (b : Bool). leastOf (day .counts) (day .maxs) table from (lacking slot - cond b (getD (day .maxs) i 0) 0)) (by slot ∙ ne-eqb (slotOf plan i) slot (λ z. q (sym z ∙ e)))
-                ∙ ap (λ (x : ℕ). leastOf (day .counts) (day .maxs) table from x) (minus-none (lacking slot))
+                ap (λ (b : Bool). leastOf weight (day .counts) (day .maxs) table from (lacking slot - cond b (getD (day .maxs) i 0) 0)) (by slot ∙ ne-eqb (slotOf plan i) slot (λ z. q (sym z ∙ e)))
+                ∙ ap (λ (x : ℕ). leastOf weight (day .counts) (day .maxs) table from x) (minus-none (lacking slot))
 
         -- so the plan's place stays
         pub left-keeps : (domain : ℕ) → day .counts .slots ≤ 24 → has domain (placeNumber (day .counts .slots) (slotOf plan i)) ≡ true
@@ -251,36 +251,36 @@ module _ (day : Day) (plan : List ℕ) (feasibly : feasible day plan ≡ true) (
 module _ (day : Day) (plan : List ℕ) (feasibly : feasible day plan ≡ true) (len : length plan ≡ day .counts .choices)
     (free from : ℕ) (domains : List ℕ) (within : Within (day .counts .slots) plan domains)
     (before : (choice : ℕ) → choice < from → has free choice ≡ false) (inside : from ≤ day .counts .choices)
-    (entry : ℕ → ℕ → ℕ → ℕ) (lacks : List ℕ)
-    (least-entry : (table lack : ℕ) → table < 5 → lack ≤ day .counts .choosers → entry table from lack ≡ leastOf (day .counts) (day .maxs) table from lack)
+    (entry : ℕ → ℕ → ℕ → ℕ) (weight : ℕ → ℕ → ℕ) (lacks : List ℕ)
+    (least-entry : (table lack : ℕ) → table < 4 → lack ≤ day .counts .choosers → entry table from lack ≡ leastOf weight (day .counts) (day .maxs) table from lack)
     (lacks-are : (slot : ℕ) → slot < day .counts .slots → getD lacks slot 0 ≡ lackOf (day .counts .choices) (day .counts .choosers) (day .maxs) free domains slot)
     (few : day .counts .slots ≤ 24) (full : day .counts .choices ≤ length domains) where
-  rule-keeps : (table i domain : ℕ) → table < 5 → i < day .counts .choices → has domain (placeNumber (day .counts .slots) (slotOf plan i)) ≡ true
-      → has (tableRule entry (day .counts) (day .maxs) table free from lacks i domain) (placeNumber (day .counts .slots) (slotOf plan i)) ≡ true
+  rule-keeps : (table i domain : ℕ) → table < 4 → i < day .counts .choices → has domain (placeNumber (day .counts .slots) (slotOf plan i)) ≡ true
+      → has (tableRule entry weight (day .counts) (day .maxs) table free from lacks i domain) (placeNumber (day .counts .slots) (slotOf plan i)) ≡ true
   unfolding tableRule
   rule-keeps table i domain h hi d = go (has free i) refl
     where
       go : (b : Bool) → has free i ≡ b
-          → has (cond b (leftOf entry (day .counts .slots) table from lacks (weightOf (day .counts .choosers) table (getD (day .maxs) i 0)) (getD (day .maxs) i 0)
-          (needOf entry (day .counts .slots) table from lacks) (spareOf (day .counts .choices) (day .counts .choosers) (day .maxs) table free) domain) domain)
+          → has (cond b (leftOf entry (day .counts .slots) table from lacks (weight table i) (getD (day .maxs) i 0)
+          (needOf entry (day .counts .slots) table from lacks) (spareOf (day .counts .choices) weight table free) domain) domain)
           (placeNumber (day .counts .slots) (slotOf plan i)) ≡ true
       go true u =
-          left-keeps day plan feasibly len free from domains within before inside table entry lacks (λ lack l. least-entry table lack h l) lacks-are i hi u domain few d
+          left-keeps day plan feasibly len free from domains within before inside weight table entry lacks (λ lack l. least-entry table lack h l) lacks-are i hi u domain few d
       go false u = d
 
-  below-length : (n : ℕ) → length (tablesBelow entry (day .counts) (day .maxs) free from lacks n domains) ≡ length domains
+  below-length : (n : ℕ) → length (tablesBelow entry weight (day .counts) (day .maxs) free from lacks n domains) ≡ length domains
   unfolding tablesBelow
   below-length zero = refl
   below-length (suc n) =
-      each-length (day .counts .choices) (tableRule entry (day .counts) (day .maxs) n free from lacks) (tablesBelow entry (day .counts) (day .maxs) free from lacks n domains) ∙ below-length n
+      each-length (day .counts .choices) (tableRule entry weight (day .counts) (day .maxs) n free from lacks) (tablesBelow entry weight (day .counts) (day .maxs) free from lacks n domains) ∙ below-length n
 
-  pub below-within : (n : ℕ) → n ≤ 5 → Within (day .counts .slots) plan (tablesBelow entry (day .counts) (day .maxs) free from lacks n domains)
+  pub below-within : (n : ℕ) → n ≤ 4 → Within (day .counts .slots) plan (tablesBelow entry weight (day .counts) (day .maxs) free from lacks n domains)
   unfolding tablesBelow
   below-within zero h = within
   below-within (suc n) h =
-      each-within (day .counts .slots) plan (tablesBelow entry (day .counts) (day .maxs) free from lacks n domains) (below-within n (omega arith)) (day .counts .choices)
-      (tableRule entry (day .counts) (day .maxs) n free from lacks) (rw (below-length n) full)
-      λ i hi hp d. rule-keeps n i (getD (tablesBelow entry (day .counts) (day .maxs) free from lacks n domains) i 0) (omega arith) hi d
+      each-within (day .counts .slots) plan (tablesBelow entry weight (day .counts) (day .maxs) free from lacks n domains) (below-within n (omega arith)) (day .counts .choices)
+      (tableRule entry weight (day .counts) (day .maxs) n free from lacks) (rw (below-length n) full)
+      λ i hi hp d. rule-keeps n i (getD (tablesBelow entry weight (day .counts) (day .maxs) free from lacks n domains) i 0) (omega arith) hi d
 
 -- a slot's lack stands at its place
 pub lacks-at : (slots choices choosers : ℕ) (maxs : List ℕ) (free : ℕ) (domains : List ℕ) → slots ≤ 24 → (slot : ℕ) → slot < slots
@@ -305,12 +305,12 @@ fit-choosers counts maxs t =
 -- every feasible plan within the domains stays within what filled tables leave of them
 pub tables-within : (day : Day) (plan tables domains : List ℕ) → feasible day plan ≡ true → length plan ≡ day .counts .choices → Filled (day .counts) (day .maxs) tables
     → length domains ≡ 64 → Within (day .counts .slots) plan domains
-    → Within (day .counts .slots) plan (tablesRule (entryAt tables) (day .counts) (day .maxs) domains)
-unfolding tablesRule fiveTables
+    → Within (day .counts .slots) plan (tablesRule (entryAt tables) (weightAt tables) (day .counts) (day .maxs) domains)
+unfolding tablesRule fourTables
 tables-within day plan tables domains f n filled l w = go (tablesFit (day .counts) (day .maxs) && leb (day .counts .slots) 24) refl
   where
     go : (b : Bool) → (tablesFit (day .counts) (day .maxs) && leb (day .counts .slots) 24) ≡ b
-        → Within (day .counts .slots) plan (cond b (fiveTables (entryAt tables) (day .counts) (day .maxs) domains) domains)
+        → Within (day .counts .slots) plan (cond b (fourTables (entryAt tables) (weightAt tables) (day .counts) (day .maxs) domains) domains)
     go false t = w
     go true t =
         let fits : tablesFit (day .counts) (day .maxs) ≡ true = and-left (tablesFit (day .counts) (day .maxs)) (leb (day .counts .slots) 24) t in
@@ -319,8 +319,8 @@ tables-within day plan tables domains f n filled l w = go (tablesFit (day .count
         let h : day .counts .choosers ≤ 200 = fit-choosers (day .counts) (day .maxs) fits in
         let from : ℕ = firstIn (day .counts .choices) (freeOf (day .counts .choices) domains) in
         below-within day plan f n (freeOf (day .counts .choices) domains) from domains w (first-none (day .counts .choices) (freeOf (day .counts .choices) domains))
-        (first-le (day .counts .choices) (freeOf (day .counts .choices) domains)) (entryAt tables)
+        (first-le (day .counts .choices) (freeOf (day .counts .choices) domains)) (entryAt tables) (weightAt tables)
         (lacksOf (day .counts .slots) (day .counts .choices) (day .counts .choosers) (day .maxs) (freeOf (day .counts .choices) domains) domains)
         (λ table lack ht hl. entry-least (day .counts) (day .maxs) tables filled c h table from lack ht (first-le (day .counts .choices) (freeOf (day .counts .choices) domains)) hl)
         (lacks-at (day .counts .slots) (day .counts .choices) (day .counts .choosers) (day .maxs) (freeOf (day .counts .choices) domains) domains few)
-        few (omega (arith, c, l)) 5 (omega arith)
+        few (omega (arith, c, l)) 4 (omega arith)

@@ -36,8 +36,8 @@ unfoldable pub lacksOf : ℕ → ℕ → ℕ → List ℕ → ℕ → List ℕ �
 lacksOf slots choices choosers maxs free domains = written slots 0 (lackOf choices choosers maxs free domains) (replicate 24 0)
 
 -- what each slot of a day lacks; of a day that has another shape nothing
-unfoldable pub lacksIn : Counts → List ℕ → ℕ → List ℕ → List ℕ
-lacksIn counts maxs free domains =
+unfoldable pub lacksIn : Counts → List ℕ → List ℕ → List ℕ
+lacksIn counts maxs domains =
     cond (leb (counts .choices) 64 && (eqb (length maxs) (counts .choices) && leb (counts .slots) 24))
-    (lacksOf (counts .slots) (counts .choices) (counts .choosers) maxs free domains)
+    (lacksOf (counts .slots) (counts .choices) (counts .choosers) maxs (freeOf (counts .choices) domains) domains)
     (replicate 24 0)

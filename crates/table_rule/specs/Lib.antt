@@ -1,3 +1,4 @@
 pub mod Figures
 pub mod Rule
 pub mod Enough
+pub mod steps

@@ -1,35 +1,39 @@
-// The rule of one table, and the five tables one after the other.
-use super::figures::fill_lacks;
+// The rule of one table, and the four tables one after the other.
+use super::figures::each_lack;
 use super::figures::first_in;
 use super::figures::free_choices;
-use super::figures::no_lacks;
 use super::figures::with_if;
 use choice_sets::set::member;
 use constraint::check::Counts;
 use weight_tables::entry::least_at;
 use weight_tables::entry::less;
-use weight_tables::weight::largest_weight;
-use weight_tables::weight::weight_of;
+use weight_tables::weight::weight_at;
 use weight_tables::weight::wide_word;
 ghost use mathlib.Core.Path.{_≡_};
 ghost use mathlib.Core.Bool.{cond};
-ghost use Prim.Native.Nat.{_+_, _-_, _*_, _≤_, _<_};
+ghost use Prim.Native.Nat.{_+_, _-_, _*_, _≤_, _<_, max};
 ghost use lib.Dec.{leb};
 ghost use lib.ListN.{length, getD};
 ghost use Rattle.choice_sets.specs.Sets.{setOf};
-ghost use Rattle.weight_tables.specs.Weights.{weightOf};
-ghost use Rattle.weight_tables.specs.Tables.{entryAt};
+ghost use Rattle.weight_tables.specs.Tables.{entryAt, weightAt};
 ghost use Rattle.place_sets.specs.Domains.{eachBelow};
 ghost use Rattle.table_rule.specs.Figures.{firstIn};
-ghost use Rattle.table_rule.specs.Rule.{needOf, spareOf, slotKept, leftOf, tableRule, tablesBelow, fiveTables, tablesRule};
+ghost use Rattle.table_rule.specs.Rule.{needOf, spareOf, slotKept, leftOf, tableRule, tablesBelow, fourTables, tablesRule};
+ghost use Rattle.table_rule.specs.steps.Heaviest.{heaviestOf};
+
+// What the free choices weigh together, and the heaviest of them.
+struct Weighed {
+    spare: usize,
+    heaviest: usize,
+}
 
 // What the slots' lacks weigh together.
-pub(crate) fn need_of(
+fn need_of(
     slots: usize,
     table: usize,
     from: usize,
     lacks: &[usize; 24],
-    tables: &[u16; 65325],
+    tables: &[u16; 52516],
 ) -> usize
     requires { ⌜ slots ≤ 24 ⌝ }
     ensures { λ r. ⌜ (r ≡ needOf (entryAt (now (tables .entry))) slots table from (now (lacks .entry))) × (r ≤ 1572840) ⌝ }
@@ -44,34 +48,47 @@ pub(crate) fn need_of(
 }
 
 // A free choice's weight, 0 of another.
-fn free_weight(free: bool, choosers: usize, table: usize, most: u16) -> usize
-    ensures { λ r. ⌜ (r ≡ cond free (weightOf choosers table most) 0) × (r ≤ 327675) ⌝ }
+fn free_weight(free: bool, tables: &[u16; 52516], table: usize, choice: usize) -> usize
+    ensures { λ r. ⌜ (r ≡ cond free (weightAt (now (tables .entry)) table choice) 0) × (r ≤ 65535) ⌝ }
 {
     if !free {
         return 0;
     }
-    weight_of(choosers, table, most)
+    weight_at(tables, table, choice)
 }
 
-// What the free choices weigh together, from the first of them on.
-fn spare_of(
+// The larger of two weights.
+fn larger_of(one: usize, other: usize) -> usize
+    ensures { λ r. ⌜ r ≡ max one other ⌝ }
+{
+    if one <= other {
+        return other;
+    }
+    one
+}
+
+// What the free choices weigh together and the heaviest of them, from the first of them on.
+fn weigh_free(
     choices: usize,
-    choosers: usize,
-    maxs: &[u16],
+    tables: &[u16; 52516],
     table: usize,
     free: u64,
     from: usize,
-) -> usize
-    requires { ⌜ (choices ≤ 64) × ((length (now maxs) ≡ choices) × (from ≡ firstIn choices free)) ⌝ }
-    ensures { λ r. ⌜ (r ≡ spareOf choices choosers (now (maxs .entry)) table free) × (r ≤ 20971200) ⌝ }
+) -> Weighed
+    requires { ⌜ (choices ≤ 64) × (from ≡ firstIn choices free) ⌝ }
+    ensures { λ r. ⌜ (r .spare ≡ spareOf choices (weightAt (now (tables .entry))) table free) × (r .spare ≤ 4194240) ⌝ }
+    ensures { λ r. ⌜ (r .heaviest ≡ heaviestOf choices (weightAt (now (tables .entry))) table free) × (r .heaviest ≤ 65535) ⌝ }
 {
     let mut spare = 0;
+    let mut heaviest = 0;
     let mut choice = from;
     while choice < choices {
-        spare += free_weight(member(free, choice), choosers, table, maxs[choice]);
+        let weight = free_weight(member(free, choice), tables, table, choice);
+        spare += weight;
+        heaviest = larger_of(heaviest, weight);
         choice += 1;
     }
-    spare
+    Weighed { spare, heaviest }
 }
 
 // Whether a slot of the domain stays: the choice in it, with the lightest set that fills the rest of its lack, leaves enough for the other slots.
@@ -79,7 +96,7 @@ fn slot_kept(
     table: usize,
     from: usize,
     lacks: &[usize; 24],
-    tables: &[u16; 65325],
+    tables: &[u16; 52516],
     weight: usize,
     most: usize,
     need: usize,
@@ -87,7 +104,7 @@ fn slot_kept(
     domain: u64,
     slot: usize,
 ) -> bool
-    requires { ⌜ (slot < 24) × ((weight ≤ 327675) × ((need ≤ 1572840) × (spare ≤ 20971200))) ⌝ }
+    requires { ⌜ (slot < 24) × ((weight ≤ 65535) × ((need ≤ 1572840) × (spare ≤ 4194240))) ⌝ }
     ensures { λ r. ⌜ r ≡ slotKept (entryAt (now (tables .entry))) table from (now (lacks .entry)) weight most need spare domain slot ⌝ }
 {
     if !member(domain, slot) {
@@ -100,19 +117,19 @@ fn slot_kept(
 }
 
 // The slots of the domain that stay.
-pub(crate) fn kept_slots(
+fn kept_slots(
     slots: usize,
     table: usize,
     from: usize,
     lacks: &[usize; 24],
-    tables: &[u16; 65325],
+    tables: &[u16; 52516],
     weight: usize,
     most: usize,
     need: usize,
     spare: usize,
     domain: u64,
 ) -> u64
-    requires { ⌜ (slots ≤ 24) × ((weight ≤ 327675) × ((need ≤ 1572840) × (spare ≤ 20971200))) ⌝ }
+    requires { ⌜ (slots ≤ 24) × ((weight ≤ 65535) × ((need ≤ 1572840) × (spare ≤ 4194240))) ⌝ }
     ensures { λ r. ⌜ r ≡ setOf slots (slotKept (entryAt (now (tables .entry))) table from (now (lacks .entry)) weight most need spare domain) ⌝ }
 {
     let mut kept = 0;
@@ -142,14 +159,14 @@ fn left_of(
     table: usize,
     from: usize,
     lacks: &[usize; 24],
-    tables: &[u16; 65325],
+    tables: &[u16; 52516],
     weight: usize,
     most: usize,
     need: usize,
     spare: usize,
     domain: u64,
 ) -> u64
-    requires { ⌜ (slots ≤ 24) × ((weight ≤ 327675) × ((need ≤ 1572840) × (spare ≤ 20971200))) ⌝ }
+    requires { ⌜ (slots ≤ 24) × ((weight ≤ 65535) × ((need ≤ 1572840) × (spare ≤ 4194240))) ⌝ }
     ensures { λ r. ⌜ r ≡ leftOf (entryAt (now (tables .entry))) slots table from (now (lacks .entry)) weight most need spare domain ⌝ }
 {
     if weight + need <= spare {
@@ -176,23 +193,23 @@ fn left_of(
 fn next_domain(
     free: bool,
     slots: usize,
-    choosers: usize,
     table: usize,
     from: usize,
     lacks: &[usize; 24],
-    tables: &[u16; 65325],
+    tables: &[u16; 52516],
     need: usize,
     spare: usize,
+    choice: usize,
     most: u16,
     domain: u64,
 ) -> u64
-    requires { ⌜ (slots ≤ 24) × ((need ≤ 1572840) × (spare ≤ 20971200)) ⌝ }
-    ensures { λ r. ⌜ r ≡ cond free (leftOf (entryAt (now (tables .entry))) slots table from (now (lacks .entry)) (weightOf choosers table most) most need spare domain) domain ⌝ }
+    requires { ⌜ (slots ≤ 24) × ((need ≤ 1572840) × (spare ≤ 4194240)) ⌝ }
+    ensures { λ r. ⌜ r ≡ cond free (leftOf (entryAt (now (tables .entry))) slots table from (now (lacks .entry)) (weightAt (now (tables .entry)) table choice) most need spare domain) domain ⌝ }
 {
     if !free {
         return domain;
     }
-    let weight = weight_of(choosers, table, most);
+    let weight = weight_at(tables, table, choice);
     left_of(
         slots,
         table,
@@ -211,19 +228,20 @@ fn next_domain(
 fn narrow_once(
     counts: Counts,
     maxs: &[u16],
-    tables: &[u16; 65325],
+    tables: &[u16; 52516],
     table: usize,
     free: u64,
     from: usize,
     lacks: &[usize; 24],
     domains: &mut [u64; 64],
 )
-    requires { ⌜ ((counts .choices ≤ 64) × (counts .slots ≤ 24)) × ((length (now maxs) ≡ counts .choices) × ((length (now domains) ≡ 64) × ((counts .choosers ≤ 200) × (from ≡ firstIn (counts .choices) free)))) ⌝ }
-    ensures { λ r. ⌜ now (domains .exit) ≡ eachBelow (counts .choices) (tableRule (entryAt (now (tables .entry))) counts (now (maxs .entry)) table free from (now (lacks .entry))) (now (domains .entry)) ⌝ }
+    requires { ⌜ ((counts .choices ≤ 64) × (counts .slots ≤ 24)) × ((length (now maxs) ≡ counts .choices) × ((length (now domains) ≡ 64) × (from ≡ firstIn (counts .choices) free))) ⌝ }
+    ensures { λ r. ⌜ now (domains .exit) ≡ eachBelow (counts .choices) (tableRule (entryAt (now (tables .entry))) (weightAt (now (tables .entry))) counts (now (maxs .entry)) table free from (now (lacks .entry))) (now (domains .entry)) ⌝ }
 {
     let need = need_of(counts.slots, table, from, lacks, tables);
-    let spare = spare_of(counts.choices, counts.choosers, maxs, table, free, from);
-    if need + largest_weight(counts.choosers, table) <= spare {
+    let weighed = weigh_free(counts.choices, tables, table, free, from);
+    let spare = weighed.spare;
+    if need + weighed.heaviest <= spare {
         return;
     }
     let mut choice = from;
@@ -234,13 +252,13 @@ fn narrow_once(
         domains[choice] = next_domain(
             inside,
             counts.slots,
-            counts.choosers,
             table,
             from,
             lacks,
             tables,
             need,
             spare,
+            choice,
             most,
             domain,
         );
@@ -248,21 +266,21 @@ fn narrow_once(
     }
 }
 
-// The five tables one after the other.
+// The four tables one after the other.
 fn narrow_each(
     counts: Counts,
     maxs: &[u16],
-    tables: &[u16; 65325],
+    tables: &[u16; 52516],
     free: u64,
     from: usize,
     lacks: &[usize; 24],
     domains: &mut [u64; 64],
 )
-    requires { ⌜ ((counts .choices ≤ 64) × (counts .slots ≤ 24)) × ((length (now maxs) ≡ counts .choices) × ((length (now domains) ≡ 64) × ((counts .choosers ≤ 200) × (from ≡ firstIn (counts .choices) free)))) ⌝ }
-    ensures { λ r. ⌜ now (domains .exit) ≡ tablesBelow (entryAt (now (tables .entry))) counts (now (maxs .entry)) free from (now (lacks .entry)) 5 (now (domains .entry)) ⌝ }
+    requires { ⌜ ((counts .choices ≤ 64) × (counts .slots ≤ 24)) × ((length (now maxs) ≡ counts .choices) × ((length (now domains) ≡ 64) × (from ≡ firstIn (counts .choices) free))) ⌝ }
+    ensures { λ r. ⌜ now (domains .exit) ≡ tablesBelow (entryAt (now (tables .entry))) (weightAt (now (tables .entry))) counts (now (maxs .entry)) free from (now (lacks .entry)) 4 (now (domains .entry)) ⌝ }
 {
     let mut table = 0;
-    while table < 5 {
+    while table < 4 {
         narrow_once(counts, maxs, tables, table, free, from, lacks, domains);
         table += 1;
     }
@@ -271,24 +289,15 @@ fn narrow_each(
 // Lending the array as a slice tells how long it is.
 fn told(domains: &[u64]) {}
 
-// The five tables by the figures of the domains as they are.
-fn narrow_fitting(counts: Counts, maxs: &[u16], tables: &[u16; 65325], domains: &mut [u64; 64])
-    requires { ⌜ ((counts .choices ≤ 64) × (counts .slots ≤ 24)) × ((length (now maxs) ≡ counts .choices) × (counts .choosers ≤ 200)) ⌝ }
-    ensures { λ r. ⌜ now (domains .exit) ≡ fiveTables (entryAt (now (tables .entry))) counts (now (maxs .entry)) (now (domains .entry)) ⌝ }
+// The four tables by the figures of the domains as they are.
+fn narrow_fitting(counts: Counts, maxs: &[u16], tables: &[u16; 52516], domains: &mut [u64; 64])
+    requires { ⌜ ((counts .choices ≤ 64) × (counts .slots ≤ 24)) × (length (now maxs) ≡ counts .choices) ⌝ }
+    ensures { λ r. ⌜ now (domains .exit) ≡ fourTables (entryAt (now (tables .entry))) (weightAt (now (tables .entry))) counts (now (maxs .entry)) (now (domains .entry)) ⌝ }
 {
     told(domains);
     let free = free_choices(counts.choices, domains);
     let from = first_in(counts.choices, free);
-    let mut lacks = no_lacks();
-    fill_lacks(
-        counts.slots,
-        counts.choices,
-        counts.choosers,
-        maxs,
-        free,
-        domains,
-        &mut lacks,
-    );
+    let lacks = each_lack(counts.slots, counts.choices, counts.choosers, maxs, domains);
     narrow_each(counts, maxs, tables, free, from, &lacks, domains);
 }
 
@@ -296,10 +305,10 @@ fn narrow_fitting(counts: Counts, maxs: &[u16], tables: &[u16; 65325], domains: 
 pub fn narrow_by_tables(
     counts: Counts,
     maxs: &[u16],
-    tables: &[u16; 65325],
+    tables: &[u16; 52516],
     domains: &mut [u64; 64],
 )
-    ensures { λ r. ⌜ now (domains .exit) ≡ tablesRule (entryAt (now (tables .entry))) counts (now (maxs .entry)) (now (domains .entry)) ⌝ }
+    ensures { λ r. ⌜ now (domains .exit) ≡ tablesRule (entryAt (now (tables .entry))) (weightAt (now (tables .entry))) counts (now (maxs .entry)) (now (domains .entry)) ⌝ }
 {
     if 64 < counts.choices {
         return;

@@ -8,10 +8,12 @@ use native.Mathlib.Omega.{arith}
 use lib.ListN.{length, getD, take, replicate, length-replicate}
 use Rattle.scheduling.specs.Day.{Day}
 use Rattle.listing_nodes.specs.steps.Runs.{Judged}
+use Rattle.listing_nodes.proofs.StartLaws.{empty-node}
 use Rattle.listing_nodes.proofs.WholeLaws.{zeros-at}
 use Rattle.alive_starts.specs.Run.{Standing, run, goesOn}
 use Rattle.walk_steps.specs.Sight.{eventsFrom}
 use Rattle.walk_steps.specs.Walks.{Ready, Walked}
+use Rattle.walk_steps.proofs.SumsLaws.{none-sums}
 
 module _ (day : Day) (first room : ℕ) (buffer : List ℕ) (j : Judged day room buffer) (plan sums fills : List ℕ) (p : length plan ≡ day .counts .choices)
     (e : sums ≡ replicate 24 0) (f : fills ≡ replicate 24 0) where
@@ -44,6 +46,9 @@ module _ (day : Day) (first room : ℕ) (buffer : List ℕ) (j : Judged day room
               entries = ap length f ∙ length-replicate {A = ℕ} 24 0;
               low = λ slot. rw f (rw (zeros-at 24 slot) (omega arith));
             };
+        node = empty-node day;
+        least = rw e (none-sums (day .mins));
+        most = rw f (none-sums (day .maxs));
         unfinished = o;
         numbers = n;
       }

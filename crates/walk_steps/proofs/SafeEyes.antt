@@ -1,28 +1,22 @@
 -- The walk's eyes are safe: whatever they pass over, no feasible plan goes on from it.
 use mathlib.Core.Path.{_≡_, refl, sym, ap, _∙_}
-use mathlib.Core.Bool.{Bool, true, false, cond}
+use mathlib.Core.Bool.{true, false}
 use mathlib.Core.List.{List, [], _∷_, _++_}
-use Prim.Native.Nat.{ℕ, zero, suc, _+_, _-_, _≤_, _<_, min}
-use native.Mathlib.Decide.{ℕ-discrete}
+use Prim.Native.Nat.{ℕ, _+_, _-_, _≤_, _<_, min}
 use native.Mathlib.Omega.{arith}
-use borrow.Author.Tests.{ltb-true}
-use lib.Dec.{ltb}
-use lib.ListN.{length, getD, set, take, replicate, length-append, length-set, length-replicate}
-use lib.Seq.{take-append-seam, getD-append-seam, getD-set-same, getD-set-other, append-snoc}
-use Rattle.lists.specs.Below.{sumBelow}
-use Rattle.lists.proofs.Below.{and-both, and-left, and-right}
+use lib.ListN.{length, getD, replicate, length-append, length-replicate}
+use lib.Seq.{take-append-seam, getD-append-seam, append-snoc}
+use Rattle.lists.proofs.Below.{and-both, and-left}
 use Rattle.choice_sets.specs.Sets.{has}
 use Rattle.scheduling.specs.Day.{Day}
 use Rattle.scheduling.specs.Feasible.{feasible}
-use Rattle.scheduling.specs.Plan.{slotOf, sumUpTo, sumIn}
+use Rattle.scheduling.specs.Plan.{slotOf, sumIn}
 use Rattle.scheduling.specs.steps.Sums.{Sums}
-use Rattle.plan_rows.proofs.PlanLaws.{omission-is}
-use Rattle.listing_nodes.specs.Placements.{isNode}
 use Rattle.listing_nodes.specs.steps.Runs.{Judged}
-use Rattle.listing_nodes.specs.steps.Walk.{placeFits, sumsWith, goesTo, sumsTo}
-use Rattle.listing_nodes.proofs.StartLaws.{node-facts, node-start, feasible-node, step-node, sum-in, sum-out, sum-omitted}
-use Rattle.listing_nodes.proofs.WholeLaws.{Reached, reached-next, reached-empty, zeros-at}
-use Rattle.alive_starts.specs.Alive.{Eyes, Safe}
+use Rattle.listing_nodes.specs.steps.Walk.{placeFits, goesTo, sumsTo}
+use Rattle.listing_nodes.proofs.StartLaws.{node-facts, node-start, feasible-node, step-node}
+use Rattle.listing_nodes.proofs.WholeLaws.{Reached, reached-next, reached-empty}
+use Rattle.alive_starts.specs.Alive.{Safe}
 use Rattle.alive_starts.specs.Run.{Standing, standing, goesOn, run}
 use Rattle.alive_starts.specs.Page.{endedTold, goesOnTold, turnsTold, Gives}
 use Rattle.alive_starts.proofs.PageHolds.{page-holds}
@@ -31,6 +25,7 @@ use Rattle.place_sets.proofs.DomainLaws.{within-at, first-within}
 use Rattle.weight_tables.specs.Tables.{Filled}
 use Rattle.look_ahead.proofs.LookLaws.{Looks, seen-length, seen-within}
 use Rattle.walk_steps.specs.Sight.{Carried, carried, seen, mayTake, eyesOf, eventsFrom}
+use Rattle.walk_steps.proofs.SumsLaws.{none-sums, with-length, with-sums}
 
 -- every feasible plan that goes on from a start is within the domains
 unfoldable pub Leaves : Day → List ℕ → List ℕ → Type 0
@@ -45,50 +40,42 @@ pub record Holds (day : Day) (start : List ℕ) (x : Carried) : Type 0 where
   pub size : length (x .domains) ≡ 64
   pub leaves : Leaves day start (x .domains)
 
--- ---- sums of any amounts go with a place that is taken
-
-module _ (day : Day) (few : day .counts .slots ≤ 24) (amounts start sums : List ℕ) (held : Sums amounts start sums) (l : length sums ≡ 24) (place : ℕ) where
-  with-length : length (sumsWith (day .counts .slots) amounts sums (length start) place) ≡ 24
-  unfolding sumsWith
-  with-length = go (ltb place (day .counts .slots))
-    where
-      go : (b : Bool) → length (cond b (set sums place (getD sums place 0 + getD amounts (length start) 0)) sums) ≡ 24
-      go true = length-set sums place (getD sums place 0 + getD amounts (length start) 0) ∙ l
-      go false = l
-
-  with-sums : (other : List ℕ) → goesTo day start other place ≡ true → Sums amounts (start ++ (place ∷ [])) (sumsWith (day .counts .slots) amounts sums (length start) place)
-  unfolding Sums sumsWith goesTo placeFits
-  with-sums other g slot = go (ltb place (day .counts .slots)) refl
-    where
-      go : (b : Bool) → ltb place (day .counts .slots) ≡ b
-          → getD (cond (ltb place (day .counts .slots)) (set sums place (getD sums place 0 + getD amounts (length start) 0)) sums) slot 0 ≡ sumIn amounts (start ++ (place ∷ [])) slot
-      go true t =
-          let h : place < day .counts .slots = ltb-true _ _ t in
-          rw t
-          (elim (ℕ-discrete place slot) [
-            | yes e ↦
-                rw (sym e, getD-set-same sums place (getD sums place 0 + getD amounts (length start) 0) 0 (omega arith), held place)
-                (sym (sum-in start place amounts place (λ z. omega (arith, z)) refl))
-            | no n ↦
-                getD-set-other sums place slot (getD sums place 0 + getD amounts (length start) 0) 0 (λ z. n (sym z))
-                ∙ held slot ∙ sym (sum-out start place amounts slot n)
-          ])
-      go false t =
-          rw t (held slot ∙ sym (sum-omitted start place amounts slot (omission-is _ _ (rw t at g))))
-
 -- ---- the domains at a start
 
-module _ (day : Day) (tables : List ℕ) (looks : Looks day tables) (start fills domains : List ℕ) (size : length domains ≡ 64) where
-  see-length : length (seen day tables start fills domains) ≡ 64
-  unfolding seen
-  see-length = seen-length (day .counts) (day .mins) (day .maxs) (day .rows) tables start (length start) fills domains size
+-- the place of the next choice
+next-place : (start rest : List ℕ) (place : ℕ) → slotOf (start ++ (place ∷ rest)) (length start) ≡ place
+unfolding slotOf
+next-place start rest place = getD-append-seam start place rest 255
 
-  see-leaves : Sums (day .maxs) start fills → length start < day .counts .choices → Leaves day start domains → Leaves day start (seen day tables start fills domains)
+-- of a feasible plan that goes on from a start the next place fits
+plan-goes : (day : Day) (start sums : List ℕ) → day .counts .slots ≤ 24 → Reached day start sums → (place : ℕ) (rest : List ℕ) → feasible day (start ++ (place ∷ rest)) ≡ true
+    → goesTo day start sums place ≡ true
+plan-goes day start sums few reached place rest f =
+    let same : (start ++ (place ∷ [])) ++ rest ≡ start ++ (place ∷ rest) = append-snoc start place rest in
+    sym (step-node day start sums few (node-facts day start (reached .node)) (reached .held) place)
+    ∙ node-start day (start ++ (place ∷ [])) rest (feasible-node day ((start ++ (place ∷ [])) ++ rest) (ap (feasible day) same ∙ f))
+
+-- so it does by its number in the plan
+next-fits : (day : Day) (start sums : List ℕ) → day .counts .slots ≤ 24 → Reached day start sums → length start < day .counts .choices → (rest : List ℕ)
+    → length (start ++ rest) ≡ day .counts .choices → feasible day (start ++ rest) ≡ true
+    → placeFits (day .counts .slots) (day .counts .choosers) (day .mins) (day .optional) sums (length start) (slotOf (start ++ rest) (length start)) ≡ true
+unfolding goesTo
+next-fits day start sums few reached h [] e f = absurd (omega (arith, h, e, length-append start []))
+next-fits day start sums few reached h (place ∷ rest) e f =
+    rw (next-place start rest place) (plan-goes day start sums few reached place rest f)
+
+module _ (day : Day) (tables : List ℕ) (looks : Looks day tables) (start sums fills domains : List ℕ) (size : length domains ≡ 64) where
+  see-length : length (seen day tables start sums fills domains) ≡ 64
+  unfolding seen
+  see-length = seen-length (day .counts) (day .mins) (day .maxs) (day .optional) (day .rows) tables start (length start) sums fills domains size
+
+  see-leaves : Reached day start sums → Sums (day .maxs) start fills → length start < day .counts .choices → Leaves day start domains → Leaves day start (seen day tables start sums fills domains)
   unfolding Leaves seen Sums
-  see-leaves s few w rest e f =
+  see-leaves reached s few w rest e f =
       rw (take-append-seam start rest) at
-      (seen-within day tables looks (start ++ rest) f e (length start) fills domains few
-      (λ slot. s slot ∙ ap (λ (l : List ℕ). sumIn (day .maxs) l slot) (sym (take-append-seam start rest))) size (w rest e f))
+      (seen-within day tables looks (start ++ rest) f e (length start) sums fills domains few
+      (λ slot. s slot ∙ ap (λ (l : List ℕ). sumIn (day .maxs) l slot) (sym (take-append-seam start rest))) size (w rest e f)
+      (next-fits day start sums (looks .few-slots) reached few rest e f))
 
 -- a plan that goes on from the next start goes on from this one
 leaves-next : (day : Day) (start domains : List ℕ) (place : ℕ) → Leaves day start domains → Leaves day (start ++ (place ∷ [])) domains
@@ -105,11 +92,6 @@ module _ (day : Day) (tables : List ℕ) (looks : Looks day tables) where
   unfolding eyesOf
   worth start rest x h e f = refl
 
-  -- the place of the next choice
-  next-place : (start rest : List ℕ) (place : ℕ) → slotOf (start ++ (place ∷ rest)) (length start) ≡ place
-  unfolding slotOf
-  next-place start rest place = getD-append-seam start place rest 255
-
   opens : (start rest : List ℕ) (place : ℕ) (x : Carried) → Holds day start x → length ((start ++ (place ∷ [])) ++ rest) ≡ day .counts .choices
       → feasible day ((start ++ (place ∷ [])) ++ rest) ≡ true → eyesOf day tables .opens start x place ≡ true
   unfolding eyesOf mayTake goesTo Leaves
@@ -118,14 +100,12 @@ module _ (day : Day) (tables : List ℕ) (looks : Looks day tables) where
       let plan = start ++ (place ∷ rest) in
       let e' : length plan ≡ day .counts .choices = sym (ap length same) ∙ e in
       let f' : feasible day plan ≡ true = sym (ap (feasible day) same) ∙ f in
-      let node : isNode day (start ++ (place ∷ [])) ≡ true = node-start day (start ++ (place ∷ [])) rest (feasible-node day ((start ++ (place ∷ [])) ++ rest) f) in
-      let goes : goesTo day start (x .sums) place ≡ true =
-      sym (step-node day start (x .sums) (looks .few-slots) (node-facts day start (h .reached .node)) (h .reached .held) place) ∙ node in
+      let goes : goesTo day start (x .sums) place ≡ true = plan-goes day start (x .sums) (looks .few-slots) (h .reached) place rest f' in
       let n : length start < length plan = omega (arith, length-append start (place ∷ rest)) in
-      let w = see-leaves day tables looks start (x .fills) (x .domains) (h .size) (h .filled) (omega (arith, n, e')) (h .leaves) (place ∷ rest) e' f' in
-      let b : has (getD (seen day tables start (x .fills) (x .domains)) (length start) 0) (placeNumber (day .counts .slots) place) ≡ true =
-      sym (ap (λ (p : ℕ). has (getD (seen day tables start (x .fills) (x .domains)) (length start) 0) (placeNumber (day .counts .slots) p)) (next-place start rest place))
-      ∙ within-at (day .counts .slots) plan (seen day tables start (x .fills) (x .domains)) w (length start) n in
+      let w = see-leaves day tables looks start (x .sums) (x .fills) (x .domains) (h .size) (h .reached) (h .filled) (omega (arith, n, e')) (h .leaves) (place ∷ rest) e' f' in
+      let b : has (getD (seen day tables start (x .sums) (x .fills) (x .domains)) (length start) 0) (placeNumber (day .counts .slots) place) ≡ true =
+      sym (ap (λ (p : ℕ). has (getD (seen day tables start (x .sums) (x .fills) (x .domains)) (length start) 0) (placeNumber (day .counts .slots) p)) (next-place start rest place))
+      ∙ within-at (day .counts .slots) plan (seen day tables start (x .sums) (x .fills) (x .domains)) w (length start) n in
       and-both _ _ goes b
 
   next : (start : List ℕ) (place : ℕ) (x : Carried) → Holds day start x → length start < day .counts .choices → eyesOf day tables .opens start x place ≡ true
@@ -134,13 +114,13 @@ module _ (day : Day) (tables : List ℕ) (looks : Looks day tables) where
   next start place x h l o =
       let goes : goesTo day start (x .sums) place ≡ true =
       and-left (placeFits (day .counts .slots) (day .counts .choosers) (day .mins) (day .optional) (x .sums) (length start) place)
-      (has (getD (seen day tables start (x .fills) (x .domains)) (length start) 0) (placeNumber (day .counts .slots) place)) o in
+      (has (getD (seen day tables start (x .sums) (x .fills) (x .domains)) (length start) 0) (placeNumber (day .counts .slots) place)) o in
       record {
         reached = reached-next day start (x .sums) (h .reached) place goes;
         filled = with-sums day (looks .few-slots) (day .maxs) start (x .fills) (h .filled) (h .entries) place (x .sums) goes;
         entries = with-length day (looks .few-slots) (day .maxs) start (x .fills) (h .filled) (h .entries) place;
-        size = see-length day tables looks start (x .fills) (x .domains) (h .size);
-        leaves = leaves-next day start (seen day tables start (x .fills) (x .domains)) place (see-leaves day tables looks start (x .fills) (x .domains) (h .size) (h .filled) l (h .leaves));
+        size = see-length day tables looks start (x .sums) (x .fills) (x .domains) (h .size);
+        leaves = leaves-next day start (seen day tables start (x .sums) (x .fills) (x .domains)) place (see-leaves day tables looks start (x .sums) (x .fills) (x .domains) (h .size) (h .reached) (h .filled) l (h .leaves));
       }
 
   -- the eyes are safe
@@ -151,11 +131,11 @@ module _ (day : Day) (tables : List ℕ) (looks : Looks day tables) where
 pub holds-empty : (day : Day) (domains : List ℕ) → day .counts .slots ≤ 24 → length domains ≡ 64
     → ((i : ℕ) → i < day .counts .choices → getD domains i 0 ≡ firstDomain (day .counts .slots) (getD (day .optional) i 0))
     → Holds day [] (carried (replicate 24 0) (replicate 24 0) domains)
-unfolding Leaves Sums sumIn sumUpTo sumBelow
+unfolding Leaves
 holds-empty day domains few l firsts =
     record {
       reached = reached-empty day few;
-      filled = λ slot. zeros-at 24 slot;
+      filled = none-sums (day .maxs);
       entries = length-replicate {A = ℕ} 24 0;
       size = l;
       leaves = λ rest e f. first-within day rest domains f few λ i h. firsts i (omega (arith, e, h));

@@ -2,7 +2,7 @@
 use mathlib.Core.Path.{_≡_, refl, sym, ap, _∙_}
 use mathlib.Core.Bool.{Bool, true, false, _&&_, cond}
 use mathlib.Core.List.{List, [], _∷_, _++_, append-nil, map, flatMap}
-use Prim.Native.Nat.{ℕ, zero, suc, _+_, _-_, _*_, _≤_, _<_, _^_}
+use Prim.Native.Nat.{ℕ, zero, suc, _+_, _-_, _≤_, _<_, _^_}
 use native.Mathlib.Nat.{pos-of-ne-zero}
 use native.Mathlib.Numerals.{add-one}
 use native.Mathlib.Omega.{arith}
@@ -15,33 +15,31 @@ use lib.Seq.{take-length, length-take-le, getD-set-same, getD-set-other, set-set
 use Rattle.choice_sets.specs.Sets.{has}
 use Rattle.scheduling.specs.Day.{Day}
 use Rattle.scheduling.specs.Feasible.{feasible}
-use Rattle.listing_nodes.specs.Placements.{places}
-use Rattle.listing_nodes.specs.steps.Walk.{placesFrom, placeOf, placeFits, sumsWith, sumsWithout, ifFeasible, putPlans}
+use Rattle.scheduling.specs.steps.Sums.{Sums}
+use Rattle.listing_nodes.specs.Placements.{places, isNode}
+use Rattle.listing_nodes.specs.steps.Walk.{placesFrom, placeOf, placeFits, sumsWith, sumsWithout, goesTo, sumsTo, ifFeasible, putPlans}
 use Rattle.listing_nodes.specs.steps.Runs.{Walks, Shaped, Added}
 use Rattle.listing_nodes.proofs.PlaceLaws.{places-start, places-next, places-last, walks-next, walks-taken}
 use Rattle.listing_nodes.proofs.ListLaws.{start-length, next-start, start-kept, shaped-kept}
+use Rattle.listing_nodes.proofs.WholeLaws.{Reached, reached-next}
+use Rattle.listing_starts.specs.steps.Starts.{fullPasses, totalWith, pageWith}
+use Rattle.listing_starts.proofs.FullLaws.{node-added}
 use Rattle.alive_starts.specs.Alive.{Event, visit, plan, events, plansIn, visitsIn}
 use Rattle.alive_starts.specs.Run.{Standing, standing, run, goesOn}
 use Rattle.alive_starts.proofs.RunLaws.{run-stopped, run-append, run-out, run-visit, run-plan, Ran, ran}
 use Rattle.alive_starts.proofs.Visits.{plans-cost-turns}
 use Rattle.place_sets.specs.Domains.{placeNumber}
 use Rattle.look_ahead.specs.Look.{seenAt}
-use Rattle.look_ahead.proofs.LookLaws.{seen-start}
-use Rattle.walk_steps.specs.Sight.{carried, seen, mayTake, nextIn, eyesOf, eventsFrom, eventsAt, eventsLeft}
-use Rattle.walk_steps.specs.Walks.{Filled, Ready, Walked, Takes}
-use Rattle.walk_steps.proofs.InLaws.{in-within, takes-next}
+use Rattle.look_ahead.proofs.LookLaws.{seen-start, seen-open}
+use Rattle.walk_steps.specs.Sight.{carried, seen, mayTake, nextIn, nextWithin, eyesOf, eventsFrom, eventsAt, eventsLeft}
+use Rattle.walk_steps.specs.Walks.{Filled, Ready, Walked, AllFit, Takes}
+use Rattle.walk_steps.proofs.InLaws.{in-within, within-in, takes-next}
+use Rattle.walk_steps.proofs.SumsLaws.{with-sums}
 
 -- ---- the sums of maximums, as the sums of minimums
 
 module _ (slots : ℕ) (amounts : List ℕ) (choice : ℕ) (fills : List ℕ) (few : slots ≤ 24) (e : length fills ≡ 24) where
-  -- a slot has what stands there
-  pub amount-held : (at : ℕ) → at < slots → getD amounts choice 0 ≤ getD (sumsWith slots amounts fills choice (placeOf slots at)) at 0
-  unfolding sumsWith placeOf
-  amount-held at h =
-      rw (lt-ltb at slots h)
-      (rw (lt-ltb at slots h) (rw (getD-set-same fills at (getD fills at 0 + getD amounts choice 0) 0 (omega (arith, e, few))) (omega arith)))
-
-  -- and gives it back
+  -- a slot gives back what stood there
   pub amounts-left : (place : ℕ) → sumsWithout slots amounts (sumsWith slots amounts fills choice place) choice place ≡ fills
   unfolding sumsWith sumsWithout
   amounts-left place = go (ltb place slots) refl
@@ -56,7 +54,7 @@ module _ (slots : ℕ) (amounts : List ℕ) (choice : ℕ) (fills : List ℕ) (f
       go false t = refl
 
   -- one choice more
-  pub filled-taken : (decided at : ℕ) → Filled decided fills → (at < slots → getD amounts choice 0 < 2 ^ 16) → Filled (decided + 1) (sumsWith slots amounts fills choice (placeOf slots at))
+  pub filled-taken : (decided at : ℕ) → Filled decided fills → getD amounts choice 0 < 2 ^ 16 → Filled (decided + 1) (sumsWith slots amounts fills choice (placeOf slots at))
   unfolding sumsWith placeOf
   filled-taken decided at f k = go (ltb at slots) refl
     where
@@ -71,7 +69,7 @@ module _ (slots : ℕ) (amounts : List ℕ) (choice : ℕ) (fills : List ℕ) (f
             entries = length-set fills at (getD fills at 0 + getD amounts choice 0) ∙ e;
             low =
                 λ slot. elim (ℕ-discrete slot at) [
-                  | yes i ↦ rw (i, getD-set-same fills at (getD fills at 0 + getD amounts choice 0) 0 (omega (arith, e, few, h))) (omega (arith, f .low at, k h))
+                  | yes i ↦ rw (i, getD-set-same fills at (getD fills at 0 + getD amounts choice 0) 0 (omega (arith, e, few, h))) (omega (arith, f .low at, k))
                   | no n ↦ rw (getD-set-other fills at slot (getD fills at 0 + getD amounts choice 0) 0 n) (omega (arith, f .low slot))
                 ];
           })
@@ -129,7 +127,7 @@ module _ (day : Day) (tables : List ℕ) (start sums fills domains : List ℕ) w
   -- what comes after the visit of a start
   unfoldable bodyOf : ℕ → List Event
   bodyOf zero = map plan (ifFeasible day start)
-  bodyOf (suc n) = eventsLeft day tables n start sums fills (seen day tables start fills domains) (day .counts .slots + 1)
+  bodyOf (suc n) = eventsLeft day tables n start sums fills (seen day tables start sums fills domains) (day .counts .slots + 1)
 
   events-are : (n : ℕ) → eventsFrom day tables n start sums fills domains ≡ visit ∷ bodyOf n
   unfolding eventsFrom events eyesOf eventsAt bodyOf
@@ -139,7 +137,7 @@ module _ (day : Day) (tables : List ℕ) (start sums fills domains : List ℕ) w
       ap (λ (l : List Event). visit ∷ l)
       (sym
       (rw (add-one (day .counts .slots))
-      (left-past day tables n start sums fills (seen day tables start fills domains) (day .counts .slots) (omega arith)
+      (left-past day tables n start sums fills (seen day tables start sums fills domains) (day .counts .slots) (omega arith)
       ∙ rw (z, places-start (day .counts .slots)))))
 
 -- a full start: the plan that the plan check passes is counted
@@ -171,6 +169,10 @@ module _ {day : Day} {first room choice : ℕ} {p sums fills : List ℕ} {turns 
   pub so-far : choice ≤ length p
   so-far = omega (arith, l .walks .within, l .shaped .mins-fit, l .shaped .plan-fits)
 
+  -- a choice has its place among 64
+  pub choice-low : (choice ≡ length p → ⊥) → choice < 64
+  choice-low m = omega (arith, lt-of-le-ne so-far m, l .shaped .few-choices, l .shaped .plan-fits)
+
   -- nothing but the standing is changed
   unmoved : {after : Standing} → after ≡ run first room (standing true turns met buffer) (hereOf day tables choice p sums fills domains)
       → Walked first room choice (hereOf day tables choice p sums fills domains) p p sums sums fills fills (standing true turns met buffer) after
@@ -201,7 +203,7 @@ module _ {day : Day} {first room choice : ℕ} {p sums fills : List ℕ} {turns 
 
     -- a full start
     module _ (e : choice ≡ length p) where
-      pub full-numbers : met + length (ifFeasible day p) < 2 ^ 64
+      full-numbers : met + length (ifFeasible day p) < 2 ^ 64
       unfolding ifFeasible
       full-numbers = go (feasible day p)
         where
@@ -209,16 +211,24 @@ module _ {day : Day} {first room choice : ℕ} {p sums fills : List ℕ} {turns 
           go true = omega (arith, l .numbers, one-turn)
           go false = omega (arith, l .numbers)
 
-      pub walked-full : {met' : ℕ} {p' buffer' : List ℕ} {r : Bool} → p' ≡ p → Added first room (ifFeasible day p) met met' buffer buffer' → r ≡ goesOn first room met'
+      -- the whole plan is the start
+      whole : take choice p ≡ p
+      whole = ap (λ (i : ℕ). take i p) e ∙ take-length p
+
+      pub walked-full : {met' : ℕ} {p' buffer' : List ℕ} {r : Bool} → p' ≡ p
+          → met' ≡ totalWith (fullPasses (day .counts .slots) (day .counts .choosers) (day .rows) fills p) met
+          → buffer' ≡ pageWith (fullPasses (day .counts .slots) (day .counts .choosers) (day .rows) fills p) first room p buffer met
+          → r ≡ goesOn first room met'
           → Walked first room choice (hereOf day tables choice p sums fills domains) p p' sums sums fills fills (standing true turns met buffer) (standing r (turns - 1) met' buffer')
       unfolding bodyOf
-      walked-full {met'} {p'} {buffer'} s a g =
+      walked-full {met'} {p'} {buffer'} s c w g =
           let z : length p - choice ≡ 0 = omega (arith, e) in
+          let a = node-added day first room p buffer met (l .shaped) full-numbers fills (ap (isNode day) (sym whole) ∙ l .node) (rw whole at (l .most)) c w in
           record {
             stands =
                 ap (λ (c : Bool). standing c (turns - 1) met' buffer') g
                 ∙ run-full day first room (turns - 1) p (l .unfinished) a
-                ∙ ap (λ (q : List ℕ). run first room (standing true (turns - 1) met buffer) (map plan (ifFeasible day q))) (sym (take-length p) ∙ ap (λ (i : ℕ). take i p) (sym e))
+                ∙ ap (λ (q : List ℕ). run first room (standing true (turns - 1) met buffer) (map plan (ifFeasible day q))) (sym whole)
                 ∙ ap (λ (i : ℕ). run first room (standing true (turns - 1) met buffer) (bodyOf day tables (take choice p) sums fills domains i)) (sym z)
                 ∙ sym after-visit;
             start = ap (take choice) s;
@@ -228,10 +238,19 @@ module _ {day : Day} {first room choice : ℕ} {p sums fills : List ℕ} {turns 
           }
 
     -- any other goes on to the places that the choice may take, the domains as they are seen
-    module _ (m : choice ≡ length p → ⊥) {seeing : List ℕ} (v : seeing ≡ seen day tables (take choice p) fills domains)
-        {next : ℕ} (e : next ≡ nextIn (day .counts .slots) (day .counts .choosers) (day .mins) (day .optional) sums (getD seeing choice 0) choice (day .counts .slots + 1)) where
+    module _ (m : choice ≡ length p → ⊥) {seeing : List ℕ} (v : seeing ≡ seen day tables (take choice p) sums fills domains)
+        {next : ℕ} (h : next ≡ nextWithin (day .counts .slots) (getD seeing choice 0) (day .counts .slots + 1)) where
       before-end : choice < length p
       before-end = lt-of-le-ne so-far m
+
+      -- every place that is seen fits
+      seen-fits : AllFit (day .counts .slots) (day .counts .choosers) (day .mins) (day .optional) sums (getD seeing choice 0) choice
+      unfolding AllFit seen
+      seen-fits = rw (v, length-take-le choice p so-far)
+          (seen-open (day .counts) (day .mins) (day .maxs) (day .optional) (day .rows) tables (take choice p) choice sums fills domains (l .shaped .few-slots) (choice-low m))
+
+      e : next ≡ nextIn (day .counts .slots) (day .counts .choosers) (day .mins) (day .optional) sums (getD seeing choice 0) choice (day .counts .slots + 1)
+      e = h ∙ within-in (day .counts .slots) (day .counts .choosers) (day .mins) (day .optional) sums (getD seeing choice 0) choice (l .shaped .few-slots) seen-fits (day .counts .slots + 1) (omega arith)
 
       on-visit : run first room (standing true turns met buffer) (hereOf day tables choice p sums fills domains)
           ≡ run first room (standing true (turns - 1) met buffer) (leftOf day tables choice p sums fills seeing next)
@@ -258,10 +277,13 @@ module _ {day : Day} {first room choice : ℕ} {p sums fills : List ℕ} {turns 
           shaped = l .shaped;
           walks = walks-next (l .walks) (λ i. m (i ∙ l .shaped .mins-fit ∙ sym (l .shaped .plan-fits)));
           filled = l .filled;
+          node = l .node;
+          least = l .least;
+          most = l .most;
           unfinished = l .unfinished;
           numbers = omega (arith, l .numbers);
         },
-        takes-next day choice (day .counts .slots + 1) sums seeing (omega arith) e k,
+        takes-next day choice (day .counts .slots + 1) sums seeing (omega arith) seen-fits e k,
       )
 
       pub walked-on : {after : Standing} {p' sums' fills' : List ℕ}
@@ -284,17 +306,13 @@ module _ {day : Day} {first room choice : ℕ} {p sums fills : List ℕ} {turns 
             → Walked first room choice (hereOf day tables choice p sums fills domains) p p' sums sums' fills fills' (standing true turns met buffer) after
         on-lent g = walked-on (rw s at g)
 
-  -- a choice has its place among 64
-  pub choice-low : (choice ≡ length p → ⊥) → choice < 64
-  choice-low m = omega (arith, lt-of-le-ne so-far m, l .shaped .few-choices, l .shaped .plan-fits)
-
 -- of a plan the places before the choice are seen alone
-pub seen-here : (day : Day) (tables p fills domains : List ℕ) (choice : ℕ) {seeing : List ℕ} → choice ≤ length p
-    → seeing ≡ seenAt (day .counts) (day .mins) (day .maxs) (day .rows) tables p choice fills domains → seeing ≡ seen day tables (take choice p) fills domains
+pub seen-here : (day : Day) (tables p sums fills domains : List ℕ) (choice : ℕ) {seeing : List ℕ} → choice ≤ length p
+    → seeing ≡ seenAt (day .counts) (day .mins) (day .maxs) (day .optional) (day .rows) tables p choice sums fills domains → seeing ≡ seen day tables (take choice p) sums fills domains
 unfolding seen
-seen-here day tables p fills domains choice h v =
+seen-here day tables p sums fills domains choice h v =
     v
-    ∙ sym (seen-start (day .counts) (day .mins) (day .maxs) (day .rows) tables p choice fills domains h)
+    ∙ sym (seen-start (day .counts) (day .mins) (day .maxs) (day .optional) (day .rows) tables p choice sums fills domains h)
     ∙ sym (rw (length-take-le choice p h))
 
 -- ---- a place
@@ -321,81 +339,77 @@ module _ (choice left : ℕ) {day : Day} {first room : ℕ} {p sums fills : List
       both-left (placeFits (day .counts .slots) (day .counts .choosers) (day .mins) (day .optional) sums choice (placeWith day left)) (has (getD domains choice 0) (placeNumber (day .counts .slots) (placeWith day left)))
       (o .fits)
 
-  -- what standing there asks for
-  pub take-requires : {at : ℕ} → at ≡ day .counts .slots + 1 - left
-      → (choice < 64) × (choice < length (day .mins)) × (choice < length (day .maxs)) × (choice < length p) × (at ≤ day .counts .slots) × (day .counts .slots ≤ 24) × (getD sums at 0 ≤ 200) × (getD fills at 0 ≤ 64 * 65536)
-  take-requires {at} i =
-      let few : choice < 64 = omega (arith, within-plan, l .shaped .few-choices, l .shaped .plan-fits) in (
-        few,
-        omega (arith, l .walks .within),
-        omega (arith, l .walks .within, l .shaped .mins-fit, l .shaped .maxs-fit),
-        within-plan,
-        omega (arith, i, o .some),
-        l .shaped .few-slots,
-        omega (arith, l .walks .low at, l .walks .few-choosers),
-        omega (arith, l .filled .low at, few),
-      )
+  -- what standing there and leaving again ask for
+  pub take-allowed : (day .counts .slots ≤ 24) × (0 < left) × (getD sums (day .counts .slots + 1 - left) 0 ≤ 2 ^ 32) × (getD fills (day .counts .slots + 1 - left) 0 ≤ 2 ^ 32)
+  take-allowed = (
+    l .shaped .few-slots,
+    o .some,
+    omega (arith, l .walks .low (day .counts .slots + 1 - left), l .walks .few-choosers),
+    omega (arith, l .filled .low (day .counts .slots + 1 - left), within-plan, l .shaped .few-choices, l .shaped .plan-fits),
+  )
+
+  pub leave-allowed : (day .counts .slots ≤ 24) × (0 < left)
+  leave-allowed = (l .shaped .few-slots, o .some)
 
   -- the choice stands there
-  module _ {at : ℕ} (place-is : at ≡ day .counts .slots + 1 - left) {p' sums' fills' : List ℕ} (p-is : p' ≡ set p choice (placeOf (day .counts .slots) at))
-      (q-is : sums' ≡ sumsWith (day .counts .slots) (day .mins) sums choice (placeOf (day .counts .slots) at))
-      (f-is : fills' ≡ sumsWith (day .counts .slots) (day .maxs) fills choice (placeOf (day .counts .slots) at))
-      (u : at < day .counts .slots → getD (day .maxs) choice 0 < 2 ^ 16) where
-    p-here : p' ≡ set p choice (placeWith day left)
-    p-here = p-is ∙ ap (λ (k : ℕ). set p choice (placeOf (day .counts .slots) k)) place-is
-
-    q-here : sums' ≡ sumsWith (day .counts .slots) (day .mins) sums choice (placeWith day left)
-    q-here = q-is ∙ ap (λ (k : ℕ). sumsWith (day .counts .slots) (day .mins) sums choice (placeOf (day .counts .slots) k)) place-is
-
-    f-here : fills' ≡ sumsWith (day .counts .slots) (day .maxs) fills choice (placeWith day left)
-    f-here = f-is ∙ ap (λ (k : ℕ). sumsWith (day .counts .slots) (day .maxs) fills choice (placeOf (day .counts .slots) k)) place-is
-
+  module _ {p' sums' fills' : List ℕ} (p-is : p' ≡ set p choice (placeWith day left))
+      (q-is : sums' ≡ sumsWith (day .counts .slots) (day .mins) sums choice (placeWith day left))
+      (f-is : fills' ≡ sumsWith (day .counts .slots) (day .maxs) fills choice (placeWith day left))
+      (u : getD (day .maxs) choice 0 < 2 ^ 16) where
     here-events : eventsAt day tables (length p - (choice + 1)) (take choice p) sums fills domains (placeWith day left) ≡ hereOf day tables (choice + 1) p' sums' fills' domains
     here-events =
         events-taken day tables (length p - (choice + 1)) (take choice p) sums fills domains at-start (placeWith day left) (o .fits)
-        ∙ sym (rw (p-here, q-here, f-here, length-set p choice (placeWith day left), next-start choice p within-plan (placeWith day left)))
+        ∙ sym (rw (p-is, q-is, f-is, length-set p choice (placeWith day left), next-start choice p within-plan (placeWith day left)))
+
+    -- one choice more
+    next-here : take (choice + 1) p' ≡ take choice p ++ (placeWith day left ∷ [])
+    next-here = ap (take (choice + 1)) p-is ∙ next-start choice p within-plan (placeWith day left)
+
+    goes-here : goesTo day (take choice p) sums (placeWith day left) ≡ true
+    unfolding goesTo
+    goes-here = rw at-start fits-here
+
+    reached-here : Reached day (take (choice + 1) p') sums'
+    unfolding sumsTo
+    reached-here =
+        rw (next-here, q-is)
+        (rw at-start at
+        (reached-next day (take choice p) sums (record { few = l .shaped .few-slots; node = l .node; held = l .least; entries = l .walks .entries }) (placeWith day left) goes-here))
+
+    most-here : Sums (day .maxs) (take (choice + 1) p') fills'
+    most-here =
+        rw (next-here, f-is)
+        (rw at-start at
+        (with-sums day (l .shaped .few-slots) (day .maxs) (take choice p) fills (l .most) (l .filled .entries) (placeWith day left) sums goes-here))
 
     pub taken-requires : Ready day first room (choice + 1) (choice + 1) p' sums' fills' turns met buffer
     taken-requires =
         record {
-          shaped = shaped-kept (l .shaped) (rw p-here (length-set p choice (placeWith day left))) refl;
-          walks = rw q-here (walks-taken choice (day .counts .slots + 1 - left) (l .walks) fits-here);
-          filled = rw f-is (filled-taken (day .counts .slots) (day .maxs) choice fills (l .shaped .few-slots) (l .filled .entries) choice at (l .filled) u);
+          shaped = shaped-kept (l .shaped) (rw p-is (length-set p choice (placeWith day left))) refl;
+          walks = rw q-is (walks-taken choice (day .counts .slots + 1 - left) (l .walks) fits-here);
+          filled = rw f-is (filled-taken (day .counts .slots) (day .maxs) choice fills (l .shaped .few-slots) (l .filled .entries) choice (day .counts .slots + 1 - left) (l .filled) u);
+          node = reached-here .node;
+          least = reached-here .held;
+          most = most-here;
           unfinished = l .unfinished;
           numbers = l .numbers;
         }
 
     module _ {r : Bool} {turns₁ met₁ : ℕ} {p₁ sums₁ fills₁ buffer₁ : List ℕ}
         (g : Walked first room (choice + 1) (hereOf day tables (choice + 1) p' sums' fills' domains) p' p₁ sums' sums₁ fills' fills₁ (standing true turns met buffer) (standing r turns₁ met₁ buffer₁)) where
-      -- what leaving it asks for
-      pub leave-requires : (choice < 64) × (choice < length (day .mins)) × (choice < length (day .maxs)) × (at ≤ day .counts .slots) × (day .counts .slots ≤ 24)
-          × (at < day .counts .slots → (getD (day .mins) choice 0 ≤ getD sums₁ at 0) × (getD (day .maxs) choice 0 ≤ getD fills₁ at 0))
-      leave-requires =
-          let t = take-requires place-is in (
-            t .0,
-            t .1,
-            t .2,
-            t .4,
-            t .5,
-            λ h. (
-              rw (g .same-sums ∙ q-is) (amount-held (day .counts .slots) (day .mins) choice sums (l .shaped .few-slots) (l .walks .entries) at h),
-              rw (g .same-fills ∙ f-is) (amount-held (day .counts .slots) (day .maxs) choice fills (l .shaped .few-slots) (l .filled .entries) at h),
-            ),
-          )
-
-      module _ {sums₂ fills₂ : List ℕ} (e : sums₂ ≡ sumsWithout (day .counts .slots) (day .mins) sums₁ choice (placeOf (day .counts .slots) at))
-          (e' : fills₂ ≡ sumsWithout (day .counts .slots) (day .maxs) fills₁ choice (placeOf (day .counts .slots) at)) where
+      module _ {sums₂ fills₂ : List ℕ} (e : sums₂ ≡ sumsWithout (day .counts .slots) (day .mins) sums₁ choice (placeWith day left))
+          (e' : fills₂ ≡ sumsWithout (day .counts .slots) (day .maxs) fills₁ choice (placeWith day left)) where
         sums-back : sums₂ ≡ sums
-        sums-back = e ∙ rw (g .same-sums ∙ q-is) (amounts-left (day .counts .slots) (day .mins) choice sums (l .shaped .few-slots) (l .walks .entries) (placeOf (day .counts .slots) at))
+        sums-back = e ∙ rw (g .same-sums ∙ q-is) (amounts-left (day .counts .slots) (day .mins) choice sums (l .shaped .few-slots) (l .walks .entries) (placeWith day left))
 
         fills-back : fills₂ ≡ fills
-        fills-back = e' ∙ rw (g .same-fills ∙ f-is) (amounts-left (day .counts .slots) (day .maxs) choice fills (l .shaped .few-slots) (l .filled .entries) (placeOf (day .counts .slots) at))
+        fills-back = e' ∙ rw (g .same-fills ∙ f-is) (amounts-left (day .counts .slots) (day .maxs) choice fills (l .shaped .few-slots) (l .filled .entries) (placeWith day left))
 
         same : length p₁ ≡ length p
-        same = g .same-plan ∙ ap length p-here ∙ length-set p choice (placeWith day left)
+        same = g .same-plan ∙ ap length p-is ∙ length-set p choice (placeWith day left)
 
         before : take choice p₁ ≡ take choice p
-        before = start-kept choice p within-plan (placeWith day left) p₁ (rw p-here at (g .start))
+        before = start-kept choice p within-plan (placeWith day left) p₁ (rw p-is at (g .start))
 
         -- the place, and those after it
         left-run : run first room (standing true turns met buffer) (leftOf day tables choice p sums fills domains left)
@@ -419,7 +433,17 @@ module _ (choice left : ℕ) {day : Day} {first room : ℕ} {p sums fills : List
             ∙ sym (left-run ∙ run-stopped first room (standing r turns₁ met₁ buffer₁) (leftOf day tables choice p sums fills domains (left - 1)) f))
 
         -- or goes on to the places left that it may take
-        module _ (t : r ≡ true) {next : ℕ} (m : next ≡ nextIn (day .counts .slots) (day .counts .choosers) (day .mins) (day .optional) sums₂ (getD domains choice 0) choice (left - 1)) where
+        module _ (t : r ≡ true) {next : ℕ} (h : next ≡ nextWithin (day .counts .slots) (getD domains choice 0) (left - 1)) where
+          -- with the sums as before every place of the domain fits again
+          fits-again : AllFit (day .counts .slots) (day .counts .choosers) (day .mins) (day .optional) sums₂ (getD domains choice 0) choice
+          fits-again = rw sums-back (o .all-fit)
+
+          m : next ≡ nextIn (day .counts .slots) (day .counts .choosers) (day .mins) (day .optional) sums₂ (getD domains choice 0) choice (left - 1)
+          m =
+              h
+              ∙ within-in (day .counts .slots) (day .counts .choosers) (day .mins) (day .optional) sums₂ (getD domains choice 0) choice (l .shaped .few-slots) fits-again (left - 1)
+              (omega (arith, o .few))
+
           pub fewer : next < left
           fewer = omega (arith, m, in-within (day .counts .slots) (day .counts .choosers) (day .mins) (day .optional) sums₂ (getD domains choice 0) choice (left - 1), o .some)
 
@@ -449,10 +473,13 @@ module _ (choice left : ℕ) {day : Day} {first room : ℕ} {p sums fills : List
                   shaped = shaped-kept (l .shaped) same b;
                   walks = rw sums-back (l .walks);
                   filled = rw fills-back (l .filled);
+                  node = rw before (l .node);
+                  least = rw (before, sums-back) (l .least);
+                  most = rw (before, fills-back) (l .most);
                   unfinished = a .on t .2;
                   numbers = omega (arith, l .numbers, a .number, a .on t .0, a .on t .1, c);
                 },
-                takes-next day choice (left - 1) sums₂ domains (omega (arith, o .few)) m k,
+                takes-next day choice (left - 1) sums₂ domains (omega (arith, o .few)) fits-again m k,
               )
 
           pub walked-rest : {after : Standing} {p₂ sums₃ fills₃ : List ℕ}

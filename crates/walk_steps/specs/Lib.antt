@@ -1,2 +1,3 @@
 pub mod Sight
 pub mod Walks
+pub mod Stand

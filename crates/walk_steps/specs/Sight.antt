@@ -2,6 +2,7 @@
 use mathlib.Core.Bool.{Bool, true, _&&_, cond}
 use mathlib.Core.List.{List, [], _∷_, _++_}
 use Prim.Native.Nat.{ℕ, zero, suc, _+_, _-_}
+use lib.Dec.{leb}
 use lib.ListN.{length, getD}
 use Rattle.choice_sets.specs.Sets.{has}
 use Rattle.scheduling.specs.Day.{Day}
@@ -19,10 +20,10 @@ pub record Carried : Type 0 where
 abbrev pub carried : List ℕ → List ℕ → List ℕ → Carried
 carried sums fills domains = record { sums = sums; fills = fills; domains = domains }
 
--- the domains as they are seen at a start, the slots filled so far
-unfoldable pub seen : Day → List ℕ → List ℕ → List ℕ → List ℕ → List ℕ
-seen day tables start fills domains =
-    seenAt (day .counts) (day .mins) (day .maxs) (day .rows) tables start (length start) fills domains
+-- the domains as they are seen at a start, with each slot's sums so far
+unfoldable pub seen : Day → List ℕ → List ℕ → List ℕ → List ℕ → List ℕ → List ℕ
+seen day tables start sums fills domains =
+    seenAt (day .counts) (day .mins) (day .maxs) (day .optional) (day .rows) tables start (length start) sums fills domains
 
 -- a choice may take a place: the minimums fit, and its domain has it
 unfoldable pub mayTake : ℕ → ℕ → List ℕ → List ℕ → List ℕ → ℕ → ℕ → ℕ → Bool
@@ -36,16 +37,25 @@ nextIn slots choosers mins optional sums domain choice (suc left) =
     cond (mayTake slots choosers mins optional sums domain choice (placeOf slots (slots - left))) (suc left)
     (nextIn slots choosers mins optional sums domain choice left)
 
+-- the same of the places that a domain has, whether they fit or not
+unfoldable pub nextHas : ℕ → ℕ → ℕ → ℕ
+nextHas slots domain zero = 0
+nextHas slots domain (suc left) = cond (has domain (slots - left)) (suc left) (nextHas slots domain left)
+
+-- none of a day with more slots than there may be, or of more places than there are
+unfoldable pub nextWithin : ℕ → ℕ → ℕ → ℕ
+nextWithin slots domain left = cond (leb slots 24 && leb left (slots + 1)) (nextHas slots domain left) 0
+
 -- the walk's eyes: what isn't worth it is told by the places that are open, one step before
 unfoldable pub eyesOf : Day → List ℕ → Eyes Carried
 eyesOf day tables =
     record {
       worth = λ start x. true;
-      opens = λ start x place. mayTake (day .counts .slots) (day .counts .choosers) (day .mins) (day .optional) (x .sums) (getD (seen day tables start (x .fills) (x .domains)) (length start) 0) (length start) place;
+      opens = λ start x place. mayTake (day .counts .slots) (day .counts .choosers) (day .mins) (day .optional) (x .sums) (getD (seen day tables start (x .sums) (x .fills) (x .domains)) (length start) 0) (length start) place;
       next = λ start x place. carried
           (sumsWith (day .counts .slots) (day .mins) (x .sums) (length start) place)
           (sumsWith (day .counts .slots) (day .maxs) (x .fills) (length start) place)
-          (seen day tables start (x .fills) (x .domains));
+          (seen day tables start (x .sums) (x .fills) (x .domains));
     }
 
 module _ (day : Day) (tables : List ℕ) where

@@ -5,7 +5,10 @@ use mathlib.Core.List.{List}
 use Prim.Native.Nat.{ℕ, _+_, _-_, _*_, _≤_, _<_, _^_}
 use lib.ListN.{length, getD, take}
 use Rattle.scheduling.specs.Day.{Day}
-use Rattle.listing_nodes.specs.steps.Walk.{placeOf}
+use Rattle.scheduling.specs.steps.Sums.{Sums}
+use Rattle.choice_sets.specs.Sets.{has}
+use Rattle.listing_nodes.specs.Placements.{isNode}
+use Rattle.listing_nodes.specs.steps.Walk.{placeOf, placeFits}
 use Rattle.listing_nodes.specs.steps.Runs.{Walks, Shaped}
 use Rattle.alive_starts.specs.Alive.{Event}
 use Rattle.alive_starts.specs.Run.{Standing, run, goesOn}
@@ -16,11 +19,14 @@ pub record Filled (choices : ℕ) (fills : List ℕ) : Type 0 where
   pub entries : length fills ≡ 24
   pub low : (slot : ℕ) → getD fills slot 0 ≤ choices * 65536
 
--- what the walk needs: the shapes, the sums, a page that isn't over, and numbers for the plans that its turns can meet
+-- what the walk needs: the shapes, a start that is a node with its sums of minimums and of maximums, a page that isn't over, and numbers for the plans that its turns can meet
 pub record Ready (day : Day) (first room choice decided : ℕ) (plan sums fills : List ℕ) (turns met : ℕ) (buffer : List ℕ) : Type 0 where
   pub shaped : Shaped day room plan buffer
   pub walks : Walks (day .counts .slots) (day .counts .choosers) (day .mins) (day .optional) choice sums
   pub filled : Filled decided fills
+  pub node : isNode day (take decided plan) ≡ true
+  pub least : Sums (day .mins) (take decided plan) sums
+  pub most : Sums (day .maxs) (take decided plan) fills
   pub unfinished : goesOn first room met ≡ true
   pub numbers : met + turns < 2 ^ 64
 
@@ -32,8 +38,14 @@ pub record Walked (first room choice : ℕ) (events : List Event) (plan plan' su
   pub same-fills : fills' ≡ fills
   pub same-plan : length plan' ≡ length plan
 
--- a place is left, and the choice may take it
+-- every place that a domain has fits
+unfoldable pub AllFit : ℕ → ℕ → List ℕ → List ℕ → List ℕ → ℕ → ℕ → Type 0
+AllFit slots choosers mins optional sums domain choice =
+    (at : ℕ) → at ≤ slots → has domain at ≡ true → placeFits slots choosers mins optional sums choice (placeOf slots at) ≡ true
+
+-- a place is left, the choice may take it, and so it may every place of its domain
 pub record Takes (day : Day) (choice left : ℕ) (sums domains : List ℕ) : Type 0 where
   pub some : 0 < left
   pub few : left ≤ day .counts .slots + 1
   pub fits : mayTake (day .counts .slots) (day .counts .choosers) (day .mins) (day .optional) sums (getD domains choice 0) choice (placeOf (day .counts .slots) (day .counts .slots + 1 - left)) ≡ true
+  pub all-fit : AllFit (day .counts .slots) (day .counts .choosers) (day .mins) (day .optional) sums (getD domains choice 0) choice

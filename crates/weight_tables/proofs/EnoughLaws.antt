@@ -16,10 +16,10 @@ use Rattle.scheduling.specs.Day.{Day}
 use Rattle.scheduling.specs.Plan.{slotOf, omitted, standsIn, sumUpTo, sumIn}
 use Rattle.scheduling.specs.Feasible.{feasible}
 use Rattle.scheduling.proofs.Meaning.{Feasible, feasible-means}
-use Rattle.weight_tables.specs.Weights.{weightOf, least, leastOf, sumFrom}
-use Rattle.weight_tables.specs.Tables.{Filled, entryAt, enoughLeft}
+use Rattle.weight_tables.specs.Weights.{least, leastOf, sumFrom}
+use Rattle.weight_tables.specs.Tables.{Filled, entryAt, weightAt, enoughLeft}
 use Rattle.weight_tables.proofs.WeightLaws.{sum-join, from-le, from-ones, below-le, least-weighs, slots-weigh}
-use Rattle.weight_tables.proofs.TableLaws.{weight-one, entry-least}
+use Rattle.weight_tables.proofs.TableLaws.{entry-least}
 
 -- the test
 module _ (entry : ℕ → ℕ → ℕ → ℕ) (slots choosers choices from : ℕ) (fills : List ℕ) where
@@ -46,13 +46,13 @@ module _ (entry : ℕ → ℕ → ℕ → ℕ) (slots choosers choices from : �
 pub enough-filled : (counts : Counts) (maxs tables : List ℕ) → Filled counts maxs tables → counts .choices ≤ 64 → counts .choosers ≤ 200
     → (slots from : ℕ) (fills : List ℕ) → from ≤ counts .choices
     → enoughLeft (entryAt tables) slots (counts .choosers) (counts .choices) from fills
-    ≡ enoughLeft (leastOf counts maxs) slots (counts .choosers) (counts .choices) from fills
+    ≡ enoughLeft (leastOf (weightAt tables) counts maxs) slots (counts .choosers) (counts .choices) from fills
 unfolding enoughLeft
 enough-filled counts maxs tables k c h slots from fills f =
     let e : sumBelow slots (λ slot. entryAt tables 0 from (counts .choosers - getD fills slot 0))
-    ≡ sumBelow slots (λ slot. leastOf counts maxs 0 from (counts .choosers - getD fills slot 0)) =
+    ≡ sumBelow slots (λ slot. leastOf (weightAt tables) counts maxs 0 from (counts .choosers - getD fills slot 0)) =
     sum-ext slots (λ slot. entryAt tables 0 from (counts .choosers - getD fills slot 0))
-    (λ slot. leastOf counts maxs 0 from (counts .choosers - getD fills slot 0))
+    (λ slot. leastOf (weightAt tables) counts maxs 0 from (counts .choosers - getD fills slot 0))
     λ slot hs. entry-least counts maxs tables k c h 0 from (counts .choosers - getD fills slot 0) (omega arith) f (omega arith) in
     rw e
 
@@ -79,11 +79,11 @@ start-sum amounts plan from slot h =
     (λ choice. cond (not (eqb (getD plan choice 255) 255) && eqb (getD plan choice 255) slot) (getD amounts choice 0) 0)
     λ k hk. ap (λ (x : ℕ). cond (not (eqb x 255) && eqb x slot) (getD amounts k 0) 0) (take-at from plan k 255 hk))
 
--- no start of a feasible plan fails the test
-module _ (day : Day) (plan : List ℕ) (f : feasible day plan ≡ true) (n : length plan ≡ day .counts .choices) (from : ℕ) (fills : List ℕ) where
+-- no start of a feasible plan fails the test, by whatever weights of at most 1
+module _ (weight : ℕ → ℕ → ℕ) (one : (choice : ℕ) → weight 0 choice ≤ 1) (day : Day) (plan : List ℕ) (f : feasible day plan ≡ true) (n : length plan ≡ day .counts .choices) (from : ℕ) (fills : List ℕ) where
   slot-weighs : from ≤ day .counts .choices → (slot : ℕ) → slot < day .counts .slots → getD fills slot 0 ≡ sumIn (day .maxs) (take from plan) slot
-      → leastOf (day .counts) (day .maxs) 0 from (day .counts .choosers - getD fills slot 0)
-      ≤ sumFrom from (day .counts .choices - from) λ choice. cond (standsIn plan choice slot) (weightOf (day .counts .choosers) 0 (getD (day .maxs) choice 0)) 0
+      → leastOf weight (day .counts) (day .maxs) 0 from (day .counts .choosers - getD fills slot 0)
+      ≤ sumFrom from (day .counts .choices - from) λ choice. cond (standsIn plan choice slot) (weight 0 choice) 0
   unfolding leastOf sumIn sumUpTo
   slot-weighs h slot hs e =
       let count = day .counts .choices - from in
@@ -92,19 +92,19 @@ module _ (day : Day) (plan : List ℕ) (f : feasible day plan ≡ true) (n : len
       let all : day .counts .choosers ≤ sumBelow (length plan) m = (feasible-means day plan f) .maximums slot hs in
       let j : sumBelow (length plan) m ≡ sumBelow from m + sumFrom from count m = ap (λ (x : ℕ). sumBelow x m) (sym q) ∙ sum-join from count m in
       let s : sumIn (day .maxs) (take from plan) slot ≡ sumBelow from m = start-sum (day .maxs) plan from slot (omega arith) in
-      least-weighs (λ choice. weightOf (day .counts .choosers) 0 (getD (day .maxs) choice 0)) (λ choice. getD (day .maxs) choice 0) (λ choice. standsIn plan choice slot) from count
+      least-weighs (λ choice. weight 0 choice) (λ choice. getD (day .maxs) choice 0) (λ choice. standsIn plan choice slot) from count
       (day .counts .choosers - getD fills slot 0) (omega (arith, all, j, s, e))
 
   pub enough-safe : from ≤ day .counts .choices → ((slot : ℕ) → slot < day .counts .slots → getD fills slot 0 ≡ sumIn (day .maxs) (take from plan) slot)
-      → enoughLeft (leastOf (day .counts) (day .maxs)) (day .counts .slots) (day .counts .choosers) (day .counts .choices) from fills ≡ true
+      → enoughLeft (leastOf weight (day .counts) (day .maxs)) (day .counts .slots) (day .counts .choosers) (day .counts .choices) from fills ≡ true
   enough-safe h e =
       let count = day .counts .choices - from in
-      let w : ℕ → ℕ = λ choice. weightOf (day .counts .choosers) 0 (getD (day .maxs) choice 0) in
+      let w : ℕ → ℕ = λ choice. weight 0 choice in
       let slotted : ℕ → ℕ = λ slot. sumFrom from count λ choice. cond (standsIn plan choice slot) (w choice) 0 in
-      let need : ℕ → ℕ = λ slot. leastOf (day .counts) (day .maxs) 0 from (day .counts .choosers - getD fills slot 0) in
+      let need : ℕ → ℕ = λ slot. leastOf weight (day .counts) (day .maxs) 0 from (day .counts .choosers - getD fills slot 0) in
       let a : sumBelow (day .counts .slots) need ≤ sumBelow (day .counts .slots) slotted =
       below-le (day .counts .slots) need slotted λ slot hs. slot-weighs h slot hs (e slot hs) in
       let b : sumBelow (day .counts .slots) slotted ≤ sumFrom from count w = slots-weigh w (standsIn plan) (slotOf plan) (stands-only plan) (day .counts .slots) from count in
-      let c : sumFrom from count w ≤ sumFrom from count (λ choice. 1) = from-le from count w (λ choice. 1) λ k lo hi. weight-one (day .counts .choosers) (getD (day .maxs) k 0) in
+      let c : sumFrom from count w ≤ sumFrom from count (λ choice. 1) = from-le from count w (λ choice. 1) λ k lo hi. one k in
       let d : sumFrom from count (λ choice. 1) ≡ count = from-ones from count in
-      enough-by (leastOf (day .counts) (day .maxs)) (day .counts .slots) (day .counts .choosers) (day .counts .choices) from fills (omega (arith, a, b, c, d))
+      enough-by (leastOf weight (day .counts) (day .maxs)) (day .counts .slots) (day .counts .choosers) (day .counts .choices) from fills (omega (arith, a, b, c, d))

@@ -1,190 +1,21 @@
 -- The tables as they are filled and read: what is written stands, the rest is as it was, and each row is least weights.
 use mathlib.Core.Path.{_≡_, refl, sym, _∙_, ap}
-use mathlib.Core.Bool.{Bool, true, false, _&&_, _||_, cond, false≢true}
+use mathlib.Core.Bool.{Bool, true, false, _&&_, cond, false≢true}
 use mathlib.Core.List.{List}
-use Prim.Native.Nat.{ℕ, zero, suc, _+_, _-_, _*_, _/_, _≤_, _<_, min}
+use Prim.Native.Nat.{ℕ, zero, suc, _+_, _-_, _*_, _≤_, _<_, min}
 use native.Mathlib.Decide.{ℕ-discrete}
 use native.Mathlib.Numerals.{add-one}
-use native.Mathlib.Nat.{not-suc-le-zero, mul-comm, mul-le-mul, mul-le-mul-right, one-le-mul, div-lt-iff-lt-mul, div-le-of-le-mul, mul-div-cancel}
+use native.Mathlib.Nat.{not-suc-le-zero}
 use native.Mathlib.Omega.{arith}
-use borrow.Author.Tests.{lt-ltb, le-ltb, le-leb, lt-leb, eq-eqb, ne-eqb}
-use lib.Arith.{digits-div}
-use lib.Dec.{eqb, ltb, leb}
+use borrow.Author.Tests.{lt-ltb, le-ltb, ltb-true, le-leb, lt-leb, eq-eqb, ne-eqb}
+use lib.Dec.{ltb}
 use lib.ListN.{length, getD, set, length-set}
 use lib.Seq.{getD-set-same, getD-set-other}
+use Rattle.lists.proofs.Below.{and-left, and-right}
 use Rattle.constraint.specs.declared.check.Counts.{Counts}
-use Rattle.weight_tables.specs.Weights.{scaleOf, partsOf, sidesOf, headsWeigh, weightOf, largestWeight, lastEntry, least, leastOf}
-use Rattle.weight_tables.specs.Tables.{tablesFit, Filled, Fills, entryAt, written, nextEntry, Filling}
-
--- a table's scale, case by case
-module _ (table : ℕ) where
-  pub scale-one : table ≡ 0 → 1 ≡ scaleOf table
-  unfolding scaleOf
-  scale-one e = rw e
-
-  pub scale-five : (table ≡ 0 → ⊥) → 5 ≡ scaleOf table
-  unfolding scaleOf
-  scale-five n = rw (ne-eqb _ _ n)
-
--- parts of a headcount: none, or some, which are no more than heads by scale
-module _ (choosers scale heads : ℕ) where
-  pub parts-none : heads ≡ 0 → 0 ≡ partsOf choosers scale heads
-  unfolding partsOf
-  parts-none e = rw e
-
-  pub parts-some : (heads ≡ 0 → ⊥) → (heads * scale - 1) / choosers + 1 ≡ partsOf choosers scale heads
-  unfolding partsOf
-  parts-some n = rw (ne-eqb _ _ n)
-
-  pub parts-fit : heads ≤ 65535 → scale ≤ 5 → heads * scale ≤ 327675
-  parts-fit h s = mul-le-mul {n₂ = 65535} {m₂ = 5} h s
-
-  pub parts-least : (heads ≡ 0 → ⊥) → 1 ≤ scale → 1 ≤ heads * scale
-  parts-least n s = one-le-mul (omega arith) s
-
-  -- so many times the headcount don't hold them, and one time more does
-  pub parts-are : (k : ℕ) → (heads ≡ 0 → ⊥) → k * choosers < heads * scale → heads * scale ≤ k * choosers + choosers → k + 1 ≡ partsOf choosers scale heads
-  parts-are k n a b =
-      let r = heads * scale - 1 - k * choosers in
-      let e : heads * scale - 1 ≡ k * choosers + r = omega (arith, a) in
-      let l : r < choosers = omega (arith, a, b) in
-      sym (ap (λ (x : ℕ). x / choosers + 1) e ∙ ap (λ (x : ℕ). x + 1) (digits-div k l)) ∙ parts-some n
-
-  pub parts-last : heads ≤ choosers → scale ≤ 5 → heads * scale ≤ choosers * 5
-  parts-last h s = mul-le-mul {n₂ = choosers} {m₂ = 5} h s
-
-  -- no more parts than the headcount has
-  pub parts-largest : heads ≤ choosers → 1 ≤ scale → partsOf choosers scale heads ≤ scale
-  unfolding partsOf
-  parts-largest h s = go (ℕ-discrete heads 0)
-    where
-      go : Dec (heads ≡ 0) → cond (eqb heads 0) 0 ((heads * scale - 1) / choosers + 1) ≤ scale
-      go (yes e) = rw e (omega arith)
-      go (no n) =
-          let m : heads * scale ≤ scale * choosers = rw (mul-comm scale choosers) (mul-le-mul-right scale h) in
-          let l : heads * scale - 1 < scale * choosers = omega (arith, m, parts-least n s) in
-          let q : (heads * scale - 1) / choosers < scale = div-lt-iff-lt-mul {k = choosers} {x = heads * scale - 1} {y = scale} (omega arith) .1 l in
-          rw (ne-eqb heads 0 n) (omega (arith, q))
-
--- sides of the parts of a headcount: none, the whole, exactly so many, or between two
-module _ (choosers scale heads : ℕ) where
-  pub sides-none : heads ≡ 0 → 0 ≡ sidesOf choosers scale heads
-  unfolding sidesOf
-  sides-none e = rw e
-
-  pub sides-whole : (heads ≡ 0 → ⊥) → choosers ≤ heads → 2 * scale + 2 ≡ sidesOf choosers scale heads
-  unfolding sidesOf
-  sides-whole n h = rw (ne-eqb _ _ n, le-leb _ _ h)
-
-  pub sides-exactly : (k : ℕ) → (heads ≡ 0 → ⊥) → heads < choosers → heads * scale ≡ k * choosers → 2 * k + 1 ≡ sidesOf choosers scale heads
-  unfolding sidesOf
-  sides-exactly k n h e =
-      let q : heads * scale / choosers ≡ k = ap (λ (x : ℕ). x / choosers) e ∙ mul-div-cancel k (omega arith) in
-      rw (ne-eqb _ _ n, lt-leb _ _ h, q, eq-eqb _ _ e)
-
-  pub sides-between : (k : ℕ) → (heads ≡ 0 → ⊥) → heads < choosers → k * choosers < heads * scale → heads * scale < k * choosers + choosers
-      → 2 * k + 2 ≡ sidesOf choosers scale heads
-  unfolding sidesOf
-  sides-between k n h a b =
-      let r = heads * scale - k * choosers in
-      let e : heads * scale ≡ k * choosers + r = omega (arith, a) in
-      let l : r < choosers = omega (arith, a, b) in
-      let q : heads * scale / choosers ≡ k = ap (λ (x : ℕ). x / choosers) e ∙ digits-div k l in
-      rw (ne-eqb _ _ n, lt-leb _ _ h, q, ne-eqb (heads * scale) (k * choosers) (λ z. omega (arith, a, z)))
-
-  pub sides-fit : heads ≤ 65535 → scale ≤ 3 → heads * scale ≤ 196605
-  sides-fit h s = mul-le-mul {n₂ = 65535} {m₂ = 3} h s
-
-  -- less than a headcount has fewer than three parts of three
-  pub sides-last : heads < choosers → scale ≤ 3 → heads * scale < 2 * choosers + choosers
-  sides-last h s =
-      let m : heads * scale ≤ heads * 3 = mul-le-mul {n₂ = heads} {m₂ = 3} (omega arith) s in
-      omega (arith, m)
-
-  -- the whole weighs most
-  pub sides-largest : heads ≤ choosers → sidesOf choosers scale heads ≤ 2 * scale + 2
-  unfolding sidesOf
-  sides-largest h =
-      let q : heads * scale / choosers ≤ scale = div-le-of-le-mul choosers (mul-le-mul-right scale h) in
-      go (eqb heads 0) (leb choosers heads) (eqb (heads * scale) (heads * scale / choosers * choosers)) (heads * scale / choosers) q
-    where
-      go : (a b c : Bool) (q : ℕ) → q ≤ scale → cond a 0 (cond b (2 * scale + 2) (cond c (2 * q + 1) (2 * q + 2))) ≤ 2 * scale + 2
-      go true b c q l = omega arith
-      go false true c q l = omega arith
-      go false false true q l = omega arith
-      go false false false q l = omega arith
-
--- what heads weigh, table by table
-module _ (choosers table heads : ℕ) where
-  pub heads-one : table ≡ 1 → heads ≡ headsWeigh choosers table heads
-  unfolding headsWeigh
-  heads-one e = rw e
-
-  pub heads-two : (result : ℕ) → table ≡ 2 → result ≡ sidesOf choosers 2 heads → result ≡ headsWeigh choosers table heads
-  unfolding headsWeigh
-  heads-two result e r = rw e r
-
-  pub heads-three : (result : ℕ) → table ≡ 3 → result ≡ sidesOf choosers 3 heads → result ≡ headsWeigh choosers table heads
-  unfolding headsWeigh
-  heads-three result e r = rw e r
-
-  pub heads-other : (scale result : ℕ) → (table ≡ 1 → ⊥) → (table ≡ 2 → ⊥) → (table ≡ 3 → ⊥) → scale ≡ scaleOf table
-      → result ≡ partsOf choosers scale heads → result ≡ headsWeigh choosers table heads
-  unfolding headsWeigh
-  heads-other scale result a b c s r =
-      rw (ne-eqb _ _ a, ne-eqb _ _ b, ne-eqb _ _ c) (r ∙ ap (λ (x : ℕ). partsOf choosers x heads) s)
-
-  pub heads-largest : heads ≤ choosers → headsWeigh choosers table heads ≤ largestWeight choosers table
-  unfolding headsWeigh largestWeight scaleOf
-  heads-largest h = go (ℕ-discrete table 0) (ℕ-discrete table 1) (ℕ-discrete table 2) (ℕ-discrete table 3)
-    where
-      go : Dec (table ≡ 0) → Dec (table ≡ 1) → Dec (table ≡ 2) → Dec (table ≡ 3)
-          → cond (eqb table 1) heads (cond (eqb table 2) (sidesOf choosers 2 heads) (cond (eqb table 3) (sidesOf choosers 3 heads) (partsOf choosers (cond (eqb table 0) 1 5) heads)))
-          ≤ cond (eqb table 0) 1 (cond (eqb table 1) choosers (cond (eqb table 2) 6 (cond (eqb table 3) 8 5)))
-      go (yes e) b c d = rw e (parts-largest choosers 1 heads h (omega arith))
-      go (no a) (yes e) c d = rw e h
-      go (no a) (no b) (yes e) d = rw e (sides-largest choosers 2 heads h)
-      go (no a) (no b) (no c) (yes e) = rw e (sides-largest choosers 3 heads h)
-      go (no a) (no b) (no c) (no d) =
-          rw (ne-eqb table 0 a, ne-eqb table 1 b, ne-eqb table 2 c, ne-eqb table 3 d) (parts-largest choosers 5 heads h (omega arith))
-
--- the largest weight, table by table
-module _ (choosers table : ℕ) where
-  pub largest-zero : table ≡ 0 → 1 ≡ largestWeight choosers table
-  unfolding largestWeight
-  largest-zero e = rw e
-
-  pub largest-one : table ≡ 1 → choosers ≡ largestWeight choosers table
-  unfolding largestWeight
-  largest-one e = rw e
-
-  pub largest-two : table ≡ 2 → 6 ≡ largestWeight choosers table
-  unfolding largestWeight
-  largest-two e = rw e
-
-  pub largest-three : table ≡ 3 → 8 ≡ largestWeight choosers table
-  unfolding largestWeight
-  largest-three e = rw e
-
-  pub largest-other : (table ≡ 0 → ⊥) → (table ≡ 1 → ⊥) → (table ≡ 2 → ⊥) → (table ≡ 3 → ⊥) → 5 ≡ largestWeight choosers table
-  unfolding largestWeight
-  largest-other a b c d = rw (ne-eqb _ _ a, ne-eqb _ _ b, ne-eqb _ _ c, ne-eqb _ _ d)
-
--- a choice's weight as the code comes by it
-pub weight-are : (choosers table most heads word result : ℕ) → heads ≡ min word choosers → word ≡ most → result ≡ headsWeigh choosers table heads
-    → result ≡ weightOf choosers table most
-unfolding weightOf
-weight-are choosers table most heads word result h w r = r ∙ ap (λ (x : ℕ). headsWeigh choosers table x) (h ∙ ap (λ (x : ℕ). min x choosers) w)
-
--- no choice weighs more than the table's largest weight
-pub weight-largest : (choosers table most : ℕ) → weightOf choosers table most ≤ largestWeight choosers table
-unfolding weightOf
-weight-largest choosers table most = heads-largest choosers table (min most choosers) (omega arith)
-
--- in table 0 a choice weighs at most 1
-pub weight-one : (choosers most : ℕ) → weightOf choosers 0 most ≤ 1
-unfolding largestWeight
-weight-one choosers most = weight-largest choosers 0 most
+use Rattle.weight_tables.specs.Weights.{lastEntry, least, leastOf}
+use Rattle.weight_tables.specs.Tables.{tablesFit, entryAt, weightAt, Filled, Fills, FillsOne, written, nextEntry, withOnes, Filling, FirstFilled}
+use Rattle.weight_tables.proofs.WeightLaws.{least-by}
 
 -- the row after the last choice
 pub last-none : (lack : ℕ) → lack ≡ 0 → 0 ≡ lastEntry lack
@@ -245,77 +76,166 @@ last-step at lack value before tables t v =
     ap (λ (x : List ℕ). set x (at + lack) value) t ∙ ap (λ (x : ℕ). set (written lack at lastEntry before) (at + lack) x) v
     ∙ written-more at lastEntry before lack
 
+-- an entry as it is read
+module _ (tables : List ℕ) (table from lack : ℕ) where
+  pub entry-table : 4 ≤ table → 0 ≡ entryAt tables table from lack
+  unfolding entryAt
+  entry-table h = rw (le-ltb _ _ h)
+
+  pub entry-from : table < 4 → 65 ≤ from → 0 ≡ entryAt tables table from lack
+  unfolding entryAt
+  entry-from t h = rw (lt-ltb _ _ t, le-ltb _ _ h)
+
+  pub entry-lack : table < 4 → from < 65 → 201 ≤ lack → 0 ≡ entryAt tables table from lack
+  unfolding entryAt
+  entry-lack t f h = rw (lt-ltb _ _ t, lt-ltb _ _ f, le-ltb _ _ h)
+
+  pub entry-in : table < 4 → from < 65 → lack < 201 → getD tables ((table * 65 + from) * 201 + lack) 0 ≡ entryAt tables table from lack
+  unfolding entryAt
+  entry-in t f h = rw (lt-ltb _ _ t, lt-ltb _ _ f, lt-ltb _ _ h)
+
+-- entries are the same where the places are
+pub entry-same : (tables before : List ℕ) (table from lack : ℕ)
+    → (table < 4 → from < 65 → lack < 201 → getD tables ((table * 65 + from) * 201 + lack) 0 ≡ getD before ((table * 65 + from) * 201 + lack) 0)
+    → entryAt tables table from lack ≡ entryAt before table from lack
+unfolding entryAt
+entry-same tables before table from lack h = go (ltb table 4 && (ltb from 65 && ltb lack 201)) refl
+  where
+    go : (b : Bool) → (ltb table 4 && (ltb from 65 && ltb lack 201)) ≡ b
+        → cond b (getD tables ((table * 65 + from) * 201 + lack) 0) 0 ≡ cond b (getD before ((table * 65 + from) * 201 + lack) 0) 0
+    go true t =
+        let inner : (ltb from 65 && ltb lack 201) ≡ true = and-right (ltb table 4) (ltb from 65 && ltb lack 201) t in
+        h (ltb-true _ _ (and-left (ltb table 4) (ltb from 65 && ltb lack 201) t)) (ltb-true _ _ (and-left (ltb from 65) (ltb lack 201) inner))
+        (ltb-true _ _ (and-right (ltb from 65) (ltb lack 201) inner))
+    go false t = refl
+
+-- a weight as it is read
+module _ (tables : List ℕ) (table choice : ℕ) where
+  pub weight-table : 4 ≤ table → 0 ≡ weightAt tables table choice
+  unfolding weightAt
+  weight-table h = rw (le-ltb _ _ h)
+
+  pub weight-choice : table < 4 → 64 ≤ choice → 0 ≡ weightAt tables table choice
+  unfolding weightAt
+  weight-choice t h = rw (lt-ltb _ _ t, le-ltb _ _ h)
+
+  pub weight-in : table < 4 → choice < 64 → getD tables (52260 + table * 64 + choice) 0 ≡ weightAt tables table choice
+  unfolding weightAt
+  weight-in t h = rw (lt-ltb _ _ t, lt-ltb _ _ h)
+
+-- weights are the same where the places are
+pub weight-same : (tables before : List ℕ) (table choice : ℕ)
+    → (table < 4 → choice < 64 → getD tables (52260 + table * 64 + choice) 0 ≡ getD before (52260 + table * 64 + choice) 0)
+    → weightAt tables table choice ≡ weightAt before table choice
+unfolding weightAt
+weight-same tables before table choice h = go (ltb table 4 && ltb choice 64) refl
+  where
+    go : (b : Bool) → (ltb table 4 && ltb choice 64) ≡ b
+        → cond b (getD tables (52260 + table * 64 + choice) 0) 0 ≡ cond b (getD before (52260 + table * 64 + choice) 0) 0
+    go true t = h (ltb-true _ _ (and-left (ltb table 4) (ltb choice 64) t)) (ltb-true _ _ (and-right (ltb table 4) (ltb choice 64) t))
+    go false t = refl
+
+-- ones for table 0: the array is as long as it was
+pub ones-length : (before tables : List ℕ) → length before ≡ 52516 → tables ≡ withOnes before → length tables ≡ 52516
+unfolding withOnes
+ones-length before tables s e = ap (λ (x : List ℕ). length x) e ∙ written-length 52260 (λ x. 1) before 64 ∙ s
+
+-- the other tables' weights are as they were
+pub ones-out : (tables : List ℕ) (table choice : ℕ) → 1 ≤ table → weightAt (withOnes tables) table choice ≡ weightAt tables table choice
+unfolding withOnes
+ones-out tables table choice h =
+    weight-same (written 64 52260 (λ choice. 1) tables) tables table choice λ t c.
+    written-out 52260 (λ choice. 1) tables 64 (52260 + table * 64 + choice) (λ l hl z. omega arith)
+
+-- and in table 0 no choice weighs more than 1
+pub ones-in : (tables : List ℕ) (choice : ℕ) → length tables ≡ 52516 → weightAt (withOnes tables) 0 choice ≤ 1
+unfolding withOnes weightAt
+ones-in tables choice e = go (ltb choice 64) refl
+  where
+    go : (b : Bool) → ltb choice 64 ≡ b → cond (ltb 0 4 && b) (getD (written 64 52260 (λ choice. 1) tables) (52260 + 0 * 64 + choice) 0) 0 ≤ 1
+    go true t =
+        let p : 52260 + 0 * 64 + choice ≡ 52260 + choice = omega arith in
+        let w : getD (written 64 52260 (λ choice. 1) tables) (52260 + choice) 0 ≡ 1 =
+        written-in 52260 (λ choice. 1) tables 64 choice (omega (arith, e)) (ltb-true _ _ t) in
+        rw (p, w) (omega arith)
+    go false t = omega arith
+
+-- ones, one more
+pub ones-step : (choice : ℕ) (before tables : List ℕ) → tables ≡ written choice 52260 (λ x. 1) before
+    → set tables (52260 + choice) 1 ≡ written (choice + 1) 52260 (λ x. 1) before
+ones-step choice before tables e = ap (λ (x : List ℕ). set x (52260 + choice) 1) e ∙ written-more 52260 (λ x. 1) before choice
+
+pub ones-done : (choice : ℕ) (before tables : List ℕ) → choice ≡ 64 → tables ≡ written choice 52260 (λ x. 1) before → tables ≡ withOnes before
+unfolding withOnes
+ones-done choice before tables h e = e ∙ ap (λ (n : ℕ). written n 52260 (λ x. 1) before) h
+
 -- least weights, row by row
-module _ (counts : Counts) (maxs : List ℕ) (table : ℕ) where
-  pub least-last : (lack : ℕ) → leastOf counts maxs table (counts .choices) lack ≡ lastEntry lack
+module _ (weight : ℕ → ℕ → ℕ) (counts : Counts) (maxs : List ℕ) (table : ℕ) where
+  pub least-last : (lack : ℕ) → leastOf weight counts maxs table (counts .choices) lack ≡ lastEntry lack
   unfolding leastOf least
   least-last lack = let e : counts .choices - counts .choices ≡ 0 = omega arith in rw e
 
   pub least-row : (from lack : ℕ) → from < counts .choices
-      → leastOf counts maxs table from lack
-      ≡ min (leastOf counts maxs table (from + 1) lack) (weightOf (counts .choosers) table (getD maxs from 0) + leastOf counts maxs table (from + 1) (lack - getD maxs from 0))
+      → leastOf weight counts maxs table from lack
+      ≡ min (leastOf weight counts maxs table (from + 1) lack) (weight table from + leastOf weight counts maxs table (from + 1) (lack - getD maxs from 0))
   unfolding leastOf least
   least-row from lack h = let e : counts .choices - from ≡ suc (counts .choices - (from + 1)) = omega arith in rw (e, add-one)
 
-module _ (counts : Counts) (maxs : List ℕ) where
-  -- nothing is filled yet
-  pub filling-start : (tables : List ℕ) → length tables ≡ 65325 → Filling counts maxs 0 (counts .choices + 1) tables
-  filling-start tables h =
-      record {
-        size = h;
-        tablesBefore = λ other first lack o. absurd (not-suc-le-zero o);
-        rowsAfter = λ first lack f g. absurd (omega arith);
-      }
+-- one table, row by row, by the weights before
+module _ (counts : Counts) (maxs before : List ℕ) (table : ℕ) (c : counts .choices ≤ 64) (h : counts .choosers ≤ 200) (t : table < 4) where
+  -- while a table is filled the weights are as before
+  pub filling-weights : (from : ℕ) (tables : List ℕ) → Filling counts maxs before table from tables → (other choice : ℕ)
+      → weightAt tables other choice ≡ weightAt before other choice
+  filling-weights from tables k other choice =
+      weight-same tables before other choice λ o i. k .outside (52260 + other * 64 + choice) (λ a b. omega arith)
 
   -- the row after the last choice
-  pub filling-last : (table : ℕ) (tables : List ℕ) → counts .choices ≤ 64 → counts .choosers ≤ 200 → table < 5
-      → Filling counts maxs table (counts .choices + 1) tables
-      → Filling counts maxs table (counts .choices) (written (counts .choosers + 1) ((table * 65 + counts .choices) * 201) lastEntry tables)
-  filling-last table tables c h t k =
+  pub filling-last : length before ≡ 52516
+      → Filling counts maxs before table (counts .choices) (written (counts .choosers + 1) ((table * 65 + counts .choices) * 201) lastEntry before)
+  filling-last s =
       let at = (table * 65 + counts .choices) * 201 in
       let n = counts .choosers + 1 in
       record {
-        size = written-length at lastEntry tables n ∙ k .size;
-        tablesBefore = λ other first lack o f g. written-out at lastEntry tables n ((other * 65 + first) * 201 + lack) (λ l hl z. omega arith) ∙ k .tablesBefore other first lack o f g;
+        size = written-length at lastEntry before n ∙ s;
+        outside = λ place o. written-out at lastEntry before n place (λ l hl z. o (omega arith) (omega arith));
         rowsAfter = λ first lack a f g.
             let e : first ≡ counts .choices = omega arith in
-            rw e (written-in at lastEntry tables n lack (rw (k .size) (omega arith)) (omega arith) ∙ sym (least-last counts maxs table lack));
+            rw e (written-in at lastEntry before n lack (rw s (omega arith)) (omega arith) ∙ sym (least-last (weightAt before) counts maxs table lack));
       }
 
   -- a choice's row
-  pub filling-row : (table from : ℕ) (tables : List ℕ) (weight most : ℕ) → counts .choices ≤ 64 → counts .choosers ≤ 200 → table < 5 → from < counts .choices
-      → weight ≡ weightOf (counts .choosers) table (getD maxs from 0) → most ≡ getD maxs from 0
-      → Filling counts maxs table (from + 1) tables
-      → Filling counts maxs table from (written (counts .choosers + 1) ((table * 65 + from) * 201) (nextEntry tables ((table * 65 + from) * 201) weight most) tables)
+  pub filling-row : (from : ℕ) (tables : List ℕ) (weight most : ℕ) → from < counts .choices → weight ≡ weightAt tables table from → most ≡ getD maxs from 0
+      → Filling counts maxs before table (from + 1) tables
+      → Filling counts maxs before table from (written (counts .choosers + 1) ((table * 65 + from) * 201) (nextEntry tables ((table * 65 + from) * 201) weight most) tables)
   unfolding nextEntry
-  filling-row table from tables weight most c h t i w m k =
+  filling-row from tables weight most i w m k =
       let at : ℕ = (table * 65 + from) * 201 in
       let n : ℕ = counts .choosers + 1 in
       let f : ℕ → ℕ = nextEntry tables at weight most in
       record {
         size = written-length at f tables n ∙ k .size;
-        tablesBefore = λ other first lack o a g. written-out at f tables n ((other * 65 + first) * 201 + lack) (λ l hl z. omega arith) ∙ k .tablesBefore other first lack o a g;
+        outside = λ place o. written-out at f tables n place (λ l hl z. o (omega arith) (omega arith)) ∙ k .outside place o;
         rowsAfter = λ first lack a b g. go first lack a b g (ℕ-discrete first from);
       }
     where
-      row : (lack : ℕ) → lack ≤ counts .choosers
-          → nextEntry tables ((table * 65 + from) * 201) weight most lack ≡ leastOf counts maxs table from lack
+      row : (lack : ℕ) → lack ≤ counts .choosers → nextEntry tables ((table * 65 + from) * 201) weight most lack ≡ leastOf (weightAt before) counts maxs table from lack
       row lack g =
           let i1 : (table * 65 + from) * 201 + 201 + lack ≡ (table * 65 + (from + 1)) * 201 + lack = omega arith in
           let i2 : (table * 65 + from) * 201 + 201 + (lack - most) ≡ (table * 65 + (from + 1)) * 201 + (lack - most) = omega arith in
-          let a : getD tables ((table * 65 + from) * 201 + 201 + lack) 0 ≡ leastOf counts maxs table (from + 1) lack =
+          let a : getD tables ((table * 65 + from) * 201 + 201 + lack) 0 ≡ leastOf (weightAt before) counts maxs table (from + 1) lack =
           ap (λ (x : ℕ). getD tables x 0) i1 ∙ k .rowsAfter (from + 1) lack (omega arith) (omega arith) g in
-          let b : getD tables ((table * 65 + from) * 201 + 201 + (lack - most)) 0 ≡ leastOf counts maxs table (from + 1) (lack - most) =
+          let b : getD tables ((table * 65 + from) * 201 + 201 + (lack - most)) 0 ≡ leastOf (weightAt before) counts maxs table (from + 1) (lack - most) =
           ap (λ (x : ℕ). getD tables x 0) i2 ∙ k .rowsAfter (from + 1) (lack - most) (omega arith) (omega arith) (omega arith) in
+          let v : weight ≡ weightAt before table from = w ∙ filling-weights (from + 1) tables k table from in
           ap (λ (x : ℕ). min x (weight + getD tables ((table * 65 + from) * 201 + 201 + (lack - most)) 0)) a
-          ∙ ap (λ (x : ℕ). min (leastOf counts maxs table (from + 1) lack) (weight + x)) b
-          ∙ ap (λ (x : ℕ). min (leastOf counts maxs table (from + 1) lack) (x + leastOf counts maxs table (from + 1) (lack - most))) w
-          ∙ ap (λ (x : ℕ). min (leastOf counts maxs table (from + 1) lack) (weightOf (counts .choosers) table (getD maxs from 0) + leastOf counts maxs table (from + 1) (lack - x))) m
-          ∙ sym (least-row counts maxs table from lack i)
+          ∙ ap (λ (x : ℕ). min (leastOf (weightAt before) counts maxs table (from + 1) lack) (weight + x)) b
+          ∙ ap (λ (x : ℕ). min (leastOf (weightAt before) counts maxs table (from + 1) lack) (x + leastOf (weightAt before) counts maxs table (from + 1) (lack - most))) v
+          ∙ ap (λ (x : ℕ). min (leastOf (weightAt before) counts maxs table (from + 1) lack) (weightAt before table from + leastOf (weightAt before) counts maxs table (from + 1) (lack - x))) m
+          ∙ sym (least-row (weightAt before) counts maxs table from lack i)
 
       go : (first lack : ℕ) → from ≤ first → first ≤ counts .choices → lack ≤ counts .choosers → Dec (first ≡ from)
           → getD (written (counts .choosers + 1) ((table * 65 + from) * 201) (nextEntry tables ((table * 65 + from) * 201) weight most) tables) ((table * 65 + first) * 201 + lack) 0
-          ≡ leastOf counts maxs table first lack
+          ≡ leastOf (weightAt before) counts maxs table first lack
       go first lack a b g (yes e) =
           rw e
           (written-in ((table * 65 + from) * 201) (nextEntry tables ((table * 65 + from) * 201) weight most) tables (counts .choosers + 1) lack (rw (k .size) (omega arith)) (omega arith)
@@ -325,88 +245,180 @@ module _ (counts : Counts) (maxs : List ℕ) where
           (λ l hl z. q (omega arith))
           ∙ k .rowsAfter first lack (omega (arith, q)) b g
 
-  -- the same, of what the code left
-  pub filled-last : (table : ℕ) (tables after : List ℕ) → counts .choices ≤ 64 → counts .choosers ≤ 200 → table < 5
-      → Filling counts maxs table (counts .choices + 1) tables
-      → after ≡ written (counts .choosers + 1) ((table * 65 + counts .choices) * 201) lastEntry tables
-      → Filling counts maxs table (counts .choices) after
-  filled-last table tables after c h t k e = rw e (filling-last table tables c h t k)
-
-  pub filled-row : (table past from : ℕ) (tables after : List ℕ) (weight most : ℕ) → counts .choices ≤ 64 → counts .choosers ≤ 200 → table < 5
-      → past ≡ from + 1 → past ≤ counts .choices
-      → weight ≡ weightOf (counts .choosers) table (getD maxs from 0) → most ≡ getD maxs from 0
-      → Filling counts maxs table past tables
-      → after ≡ written (counts .choosers + 1) ((table * 65 + from) * 201) (nextEntry tables ((table * 65 + from) * 201) weight most) tables
-      → Filling counts maxs table from after
-  filled-row table past from tables after weight most c h t p i w m k e =
-      rw e (filling-row table from tables weight most c h t (omega arith) w m (rw p at k))
-
-  -- a table is done
-  pub filling-next : (table from : ℕ) (tables : List ℕ) → from ≡ 0 → Filling counts maxs table from tables → Filling counts maxs (table + 1) (counts .choices + 1) tables
-  filling-next table from tables z k =
+  -- rows filled by the weights before are so by the weights now, which are the same
+  pub filling-here : (from : ℕ) (tables : List ℕ) → Filling counts maxs before table from tables → Filling counts maxs tables table from tables
+  filling-here from tables k =
       record {
         size = k .size;
-        tablesBefore = λ other first lack o f g. go other first lack o f g (ℕ-discrete other table);
-        rowsAfter = λ first lack f g. absurd (omega arith);
+        outside = λ place o. refl;
+        rowsAfter = λ first lack a f g.
+            k .rowsAfter first lack a f g
+            ∙ least-by (weightAt before) (weightAt tables) counts maxs table first lack (λ choice. sym (filling-weights from tables k table choice));
+      }
+
+  -- and what is filled since then is filled since before
+  pub filling-since : (from first : ℕ) (tables after : List ℕ) → Filling counts maxs before table from tables → Filling counts maxs tables table first after
+      → Filling counts maxs before table first after
+  filling-since from first tables after k g =
+      record {
+        size = g .size;
+        outside = λ place o. g .outside place o ∙ k .outside place o;
+        rowsAfter = λ row lack a f l.
+            g .rowsAfter row lack a f l
+            ∙ least-by (weightAt tables) (weightAt before) counts maxs table row lack (λ choice. filling-weights from tables k table choice);
+      }
+
+-- the same, of what the code left
+pub filled-last : (counts : Counts) (maxs before after : List ℕ) (table : ℕ) → counts .choices ≤ 64 → counts .choosers ≤ 200 → table < 4 → length before ≡ 52516
+    → after ≡ written (counts .choosers + 1) ((table * 65 + counts .choices) * 201) lastEntry before
+    → Filling counts maxs after table (counts .choices) after
+filled-last counts maxs before after table c h t s e =
+    rw e
+    (filling-here counts maxs before table c h t (counts .choices) (written (counts .choosers + 1) ((table * 65 + counts .choices) * 201) lastEntry before)
+    (filling-last counts maxs before table c h t s))
+
+pub filled-rows : (counts : Counts) (maxs before tables after : List ℕ) (table from : ℕ) → counts .choices ≤ 64 → counts .choosers ≤ 200 → table < 4 → length before ≡ 52516
+    → tables ≡ written (counts .choosers + 1) ((table * 65 + counts .choices) * 201) lastEntry before → from ≡ 0
+    → Filling counts maxs tables table from after → Filling counts maxs before table 0 after
+filled-rows counts maxs before tables after table from c h t s e z k =
+    filling-since counts maxs before table c h t (counts .choices) 0 tables after (rw e (filling-last counts maxs before table c h t s)) (rw z at k)
+
+pub filled-row : (counts : Counts) (maxs before : List ℕ) (table past from : ℕ) (tables after : List ℕ) (weight most : ℕ) → counts .choices ≤ 64 → counts .choosers ≤ 200 → table < 4
+    → past ≡ from + 1 → past ≤ counts .choices → weight ≡ weightAt tables table from → most ≡ getD maxs from 0
+    → Filling counts maxs before table past tables
+    → after ≡ written (counts .choosers + 1) ((table * 65 + from) * 201) (nextEntry tables ((table * 65 + from) * 201) weight most) tables
+    → Filling counts maxs before table from after
+filled-row counts maxs before table past from tables after weight most c h t p i w m k e =
+    rw e (filling-row counts maxs before table c h t from tables weight most (omega arith) w m (rw p at k))
+
+-- the tables one after the other
+module _ (counts : Counts) (maxs : List ℕ) where
+  -- none is filled yet
+  pub first-none : (before : List ℕ) → length before ≡ 52516 → FirstFilled counts maxs before 0 before
+  first-none before s =
+      record {
+        size = s;
+        entries = λ table from lack o. absurd (not-suc-le-zero o);
+        weights = λ table choice. refl;
+      }
+
+  -- one more
+  pub first-more : (before tables after : List ℕ) (count : ℕ) → counts .choices ≤ 64 → counts .choosers ≤ 200 → count < 4
+      → FirstFilled counts maxs before count tables → Filling counts maxs tables count 0 after → FirstFilled counts maxs before (count + 1) after
+  first-more before tables after count c h t k g =
+      record {
+        size = g .size;
+        entries = λ table from lack o f l. go table from lack o f l (ℕ-discrete table count);
+        weights = λ table choice. filling-weights counts maxs tables count c h t 0 after g table choice ∙ k .weights table choice;
       }
     where
-      go : (other first lack : ℕ) → other < table + 1 → first ≤ counts .choices → lack ≤ counts .choosers → Dec (other ≡ table)
-          → getD tables ((other * 65 + first) * 201 + lack) 0 ≡ leastOf counts maxs other first lack
-      go other first lack o f g (yes e) = rw e (k .rowsAfter first lack (omega arith) f g)
-      go other first lack o f g (no q) = k .tablesBefore other first lack (omega (arith, q)) f g
+      go : (table from lack : ℕ) → table < count + 1 → from ≤ counts .choices → lack ≤ counts .choosers → Dec (table ≡ count)
+          → getD after ((table * 65 + from) * 201 + lack) 0 ≡ leastOf (weightAt before) counts maxs table from lack
+      go table from lack o f l (yes e) =
+          rw e (g .rowsAfter from lack (omega arith) f l ∙ least-by (weightAt tables) (weightAt before) counts maxs count from lack (λ choice. k .weights count choice))
+      go table from lack o f l (no q) =
+          g .outside ((table * 65 + from) * 201 + lack) (λ a b. omega (arith, q)) ∙ k .entries table from lack (omega (arith, q)) f l
 
-  -- and all five are
-  pub filling-done : (tables : List ℕ) (table from : ℕ) → table ≡ 5 → Filling counts maxs table from tables → Filled counts maxs tables
-  filling-done tables table from z k =
-      record { size = k .size; entries = λ other first lack o f g. k .tablesBefore other first lack (omega arith) f g }
+  pub first-done : (before first tables : List ℕ) (count : ℕ) → count ≡ 4 → first ≡ withOnes before → FirstFilled counts maxs first count tables
+      → FirstFilled counts maxs (withOnes before) 4 tables
+  first-done before first tables count e o k = rw e at (rw o at k)
 
-  -- the call: a day that doesn't fit leaves the array, the others' tables are filled
-  fills-not : (before after : List ℕ) → tablesFit counts maxs ≡ false → after ≡ before → Fills counts maxs before after
-  fills-not before after t e = record { filled = λ z. absurd (false≢true (sym t ∙ z)); untouched = λ z. e }
-
-  pub fills-many-choices : (before : List ℕ) → 64 < counts .choices → Fills counts maxs before before
-  unfolding tablesFit
-  fills-many-choices before h = fills-not before before (rw (lt-leb _ _ h)) refl
-
-  pub fills-many-choosers : (before : List ℕ) → counts .choices ≤ 64 → 200 < counts .choosers → Fills counts maxs before before
-  unfolding tablesFit
-  fills-many-choosers before c h = fills-not before before (rw (le-leb _ _ c, lt-leb _ _ h)) refl
-
-  pub fills-other-length : (before : List ℕ) → counts .choices ≤ 64 → counts .choosers ≤ 200 → (length maxs ≡ counts .choices → ⊥) → Fills counts maxs before before
-  unfolding tablesFit
-  fills-other-length before c h n = fills-not before before (rw (le-leb _ _ c, le-leb _ _ h, ne-eqb _ _ n)) refl
-
-  pub fills-all : (before after : List ℕ) → counts .choices ≤ 64 → counts .choosers ≤ 200 → length maxs ≡ counts .choices
-      → Filling counts maxs 5 (counts .choices + 1) after → Fills counts maxs before after
-  unfolding tablesFit
-  fills-all before after c h e k =
-      let t : tablesFit counts maxs ≡ true = rw (le-leb _ _ c, le-leb _ _ h, eq-eqb _ _ e) in
+  -- all four by weights that are at most 1 in table 0
+  pub first-all : (before tables : List ℕ) → ((choice : ℕ) → weightAt before 0 choice ≤ 1) → FirstFilled counts maxs before 4 tables → Filled counts maxs tables
+  first-all before tables one k =
       record {
-        filled = λ z. filling-done after 5 (counts .choices + 1) refl k;
-        untouched = λ z. absurd (false≢true (sym z ∙ t));
+        size = k .size;
+        entries = λ table from lack o f l.
+            k .entries table from lack o f l
+            ∙ least-by (weightAt before) (weightAt tables) counts maxs table from lack (λ choice. sym (k .weights table choice));
+        ones = λ choice. rw (k .weights 0 choice) (one choice);
       }
 
--- an entry as it is read
-module _ (tables : List ℕ) (table from lack : ℕ) where
-  pub entry-table : 5 ≤ table → 0 ≡ entryAt tables table from lack
-  unfolding entryAt
-  entry-table h = rw (le-ltb _ _ h)
+  -- the call: a day that doesn't fit leaves the array, the others' tables are filled
+  fills-not : (before : List ℕ) → tablesFit counts maxs ≡ false → Fills counts maxs before before
+  fills-not before t =
+      record {
+        filled = λ z. absurd (false≢true (sym t ∙ z));
+        weights = λ z table choice o. refl;
+        untouched = λ z. refl;
+      }
 
-  pub entry-from : table < 5 → 65 ≤ from → 0 ≡ entryAt tables table from lack
-  unfolding entryAt
-  entry-from t h = rw (lt-ltb _ _ t, le-ltb _ _ h)
+  not-many-choices : 64 < counts .choices → tablesFit counts maxs ≡ false
+  unfolding tablesFit
+  not-many-choices h = rw (lt-leb _ _ h)
 
-  pub entry-lack : table < 5 → from < 65 → 201 ≤ lack → 0 ≡ entryAt tables table from lack
-  unfolding entryAt
-  entry-lack t f h = rw (lt-ltb _ _ t, lt-ltb _ _ f, le-ltb _ _ h)
+  not-many-choosers : counts .choices ≤ 64 → 200 < counts .choosers → tablesFit counts maxs ≡ false
+  unfolding tablesFit
+  not-many-choosers c h = rw (le-leb _ _ c, lt-leb _ _ h)
 
-  pub entry-in : table < 5 → from < 65 → lack < 201 → getD tables ((table * 65 + from) * 201 + lack) 0 ≡ entryAt tables table from lack
-  unfolding entryAt
-  entry-in t f h = rw (lt-ltb _ _ t, lt-ltb _ _ f, lt-ltb _ _ h)
+  not-other-length : counts .choices ≤ 64 → counts .choosers ≤ 200 → (length maxs ≡ counts .choices → ⊥) → tablesFit counts maxs ≡ false
+  unfolding tablesFit
+  not-other-length c h n = rw (le-leb _ _ c, le-leb _ _ h, ne-eqb _ _ n)
+
+  all-fit : counts .choices ≤ 64 → counts .choosers ≤ 200 → length maxs ≡ counts .choices → tablesFit counts maxs ≡ true
+  unfolding tablesFit
+  all-fit c h e = rw (le-leb _ _ c, le-leb _ _ h, eq-eqb _ _ e)
+
+  pub fills-many-choices : (before : List ℕ) → 64 < counts .choices → Fills counts maxs before before
+  fills-many-choices before h = fills-not before (not-many-choices h)
+
+  pub fills-many-choosers : (before : List ℕ) → counts .choices ≤ 64 → 200 < counts .choosers → Fills counts maxs before before
+  fills-many-choosers before c h = fills-not before (not-many-choosers c h)
+
+  pub fills-other-length : (before : List ℕ) → counts .choices ≤ 64 → counts .choosers ≤ 200 → (length maxs ≡ counts .choices → ⊥) → Fills counts maxs before before
+  fills-other-length before c h n = fills-not before (not-other-length c h n)
+
+  pub fills-all : (before after : List ℕ) → counts .choices ≤ 64 → counts .choosers ≤ 200 → length maxs ≡ counts .choices → length before ≡ 52516
+      → FirstFilled counts maxs (withOnes before) 4 after → Fills counts maxs before after
+  fills-all before after c h e s k =
+      record {
+        filled = λ z. first-all (withOnes before) after (λ choice. ones-in before choice s) k;
+        weights = λ z table choice o. k .weights table choice ∙ ones-out before table choice o;
+        untouched = λ z. absurd (false≢true (sym z ∙ all-fit c h e));
+      }
+
+  -- the call for one table
+  one-not : (table : ℕ) (before : List ℕ) → (tablesFit counts maxs && ltb table 4) ≡ false → FillsOne counts table maxs before before
+  one-not table before t =
+      record {
+        size = refl;
+        entries = λ z o. absurd (false≢true (sym t ∙ rw (z, lt-ltb table 4 o)));
+        others = λ other from lack o. refl;
+        weights = λ other choice. refl;
+        untouched = λ z. refl;
+      }
+
+  one-unfit : (table : ℕ) (before : List ℕ) → tablesFit counts maxs ≡ false → FillsOne counts table maxs before before
+  one-unfit table before t = one-not table before (rw t)
+
+  pub one-many-choices : (table : ℕ) (before : List ℕ) → 64 < counts .choices → FillsOne counts table maxs before before
+  one-many-choices table before h = one-unfit table before (not-many-choices h)
+
+  pub one-many-choosers : (table : ℕ) (before : List ℕ) → counts .choices ≤ 64 → 200 < counts .choosers → FillsOne counts table maxs before before
+  one-many-choosers table before c h = one-unfit table before (not-many-choosers c h)
+
+  pub one-other-length : (table : ℕ) (before : List ℕ) → counts .choices ≤ 64 → counts .choosers ≤ 200 → (length maxs ≡ counts .choices → ⊥) → FillsOne counts table maxs before before
+  one-other-length table before c h n = one-unfit table before (not-other-length c h n)
+
+  pub one-past : (table : ℕ) (before : List ℕ) → counts .choices ≤ 64 → counts .choosers ≤ 200 → length maxs ≡ counts .choices → 4 ≤ table → FillsOne counts table maxs before before
+  one-past table before c h e t = one-not table before (rw (all-fit c h e, le-ltb table 4 t))
+
+  pub one-filled : (table : ℕ) (before after : List ℕ) → counts .choices ≤ 64 → counts .choosers ≤ 200 → length maxs ≡ counts .choices → table < 4 → length before ≡ 52516
+      → Filling counts maxs before table 0 after → FillsOne counts table maxs before after
+  one-filled table before after c h e t s k =
+      record {
+        size = k .size ∙ sym s;
+        entries = λ z o from lack f l.
+            sym (entry-in after table from lack t (omega arith) (omega arith)) ∙ k .rowsAfter from lack (omega arith) f l;
+        others = λ other from lack o.
+            entry-same after before other from lack λ a b d. k .outside ((other * 65 + from) * 201 + lack) (λ u v. omega (arith, o));
+        weights = λ other choice. filling-weights counts maxs before table c h t 0 after k other choice;
+        untouched = λ z. absurd (false≢true (sym z ∙ rw (all-fit c h e, lt-ltb table 4 t)));
+      }
 
 -- of filled tables every entry that a day uses reads as the least weight
 pub entry-least : (counts : Counts) (maxs tables : List ℕ) → Filled counts maxs tables → counts .choices ≤ 64 → counts .choosers ≤ 200
-    → (table from lack : ℕ) → table < 5 → from ≤ counts .choices → lack ≤ counts .choosers
-    → entryAt tables table from lack ≡ leastOf counts maxs table from lack
+    → (table from lack : ℕ) → table < 4 → from ≤ counts .choices → lack ≤ counts .choosers
+    → entryAt tables table from lack ≡ leastOf (weightAt tables) counts maxs table from lack
 entry-least counts maxs tables k c h table from lack t f g =
     sym (entry-in tables table from lack t (omega arith) (omega arith)) ∙ k .entries table from lack t f g

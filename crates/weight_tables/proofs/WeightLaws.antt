@@ -7,8 +7,10 @@ use native.Mathlib.Nat.{add-zero, add-suc}
 use native.Mathlib.Omega.{arith}
 use borrow.Author.Tests.{eq-eqb, ne-eqb}
 use lib.Dec.{eqb}
+use lib.ListN.{getD}
 use Rattle.lists.specs.Below.{sumBelow}
-use Rattle.weight_tables.specs.Weights.{lastEntry, least, sumFrom}
+use Rattle.constraint.specs.declared.check.Counts.{Counts}
+use Rattle.weight_tables.specs.Weights.{lastEntry, least, leastOf, sumFrom}
 
 -- sums from a number on: the first numbers apart
 pub sum-join : (from count : ℕ) (f : ℕ → ℕ) → sumBelow (from + count) f ≡ sumBelow from f + sumFrom from count f
@@ -85,6 +87,20 @@ module _ (weight most : ℕ → ℕ) (inside : ℕ → Bool) where
           ≤ cond (inside from) (weight from) 0 + sumFrom (suc from) count λ choice. cond (inside choice) (weight choice) 0
       go true t without with h = let g = rw t at h in rw t (omega (arith, with (omega (arith, g))))
       go false t without with h = let g = rw t at h in rw t (omega (arith, without (omega (arith, g))))
+
+-- weights that agree have the same least weights
+pub least-ext : (weight other most : ℕ → ℕ) → ((choice : ℕ) → weight choice ≡ other choice) → (from count lack : ℕ)
+    → least weight most from count lack ≡ least other most from count lack
+unfolding least
+least-ext weight other most h from zero lack = refl
+least-ext weight other most h from (suc count) lack =
+    rw (h from, least-ext weight other most h (suc from) count lack, least-ext weight other most h (suc from) count (lack - most from))
+
+pub least-by : (weight other : ℕ → ℕ → ℕ) (counts : Counts) (maxs : List ℕ) (table from lack : ℕ) → ((choice : ℕ) → weight table choice ≡ other table choice)
+    → leastOf weight counts maxs table from lack ≡ leastOf other counts maxs table from lack
+unfolding leastOf
+least-by weight other counts maxs table from lack h =
+    least-ext (weight table) (other table) (λ choice. getD maxs choice 0) h from (counts .choices - from) lack
 
 -- what stands in one slot at most is summed once over the slots
 module _ (stands : ℕ → Bool) (place x : ℕ) (only : (slot : ℕ) → stands slot ≡ true → place ≡ slot) where

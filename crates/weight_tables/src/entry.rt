@@ -5,10 +5,10 @@ ghost use Prim.Native.Nat.{_-_, _≤_};
 ghost use Rattle.weight_tables.specs.Tables.{entryAt};
 
 // The entry for a table, a first choice and a lack: 0 past the tables' shape.
-pub fn least_at(tables: &[u16; 65325], table: usize, from: usize, lack: usize) -> usize
+pub fn least_at(tables: &[u16; 52516], table: usize, from: usize, lack: usize) -> usize
     ensures { λ r. ⌜ (r ≡ entryAt (now (tables .entry)) table from lack) × (r ≤ 65535) ⌝ }
 {
-    if 5 <= table {
+    if 4 <= table {
         return 0;
     }
     if 65 <= from {

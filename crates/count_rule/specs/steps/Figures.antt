@@ -1,12 +1,16 @@
 -- The rule by the two arrays that the code keeps: what each slot has at least, and what of that is settled.
 use mathlib.Core.Bool.{cond}
 use mathlib.Core.List.{List}
-use Prim.Native.Nat.{ℕ, _-_}
+use Prim.Native.Nat.{ℕ, _+_, _-_}
 use lib.Dec.{eqb, ltb}
 use lib.ListN.{getD}
 use Rattle.lists.specs.Below.{sumBelow}
 use Rattle.choice_sets.specs.Sets.{has, setOf, sizeOf}
 use Rattle.place_sets.specs.Domains.{bothPlaces, eachBelow}
+
+-- the fewest choices that a slot has by its sums
+unfoldable pub fewestIn : (ℕ → ℕ → ℕ → ℕ) → ℕ → List ℕ → List ℕ → ℕ → ℕ
+fewestIn entry from lacks settled slot = getD settled slot 0 + entry 0 from (getD lacks slot 0)
 
 -- how many free choices a slot still needs
 unfoldable pub lackIn : List ℕ → List ℕ → ℕ → ℕ

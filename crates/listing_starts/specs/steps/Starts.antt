@@ -3,9 +3,9 @@ use mathlib.Core.Bool.{Bool, _&&_, cond}
 use mathlib.Core.List.{List}
 use Prim.Native.Nat.{ℕ, _+_, _*_, _^_}
 use lib.Dec.{eqb, ltb, leb}
-use lib.ListN.{length}
-use Rattle.scheduling.specs.Day.{Day}
-use Rattle.scheduling.specs.Feasible.{isFeasible}
+use lib.ListN.{length, getD}
+use Rattle.lists.specs.Below.{allBelow}
+use Rattle.scheduling.specs.Kept.{keepsEvery}
 use Rattle.listing_nodes.specs.steps.Walk.{nextOpen, putPlan}
 
 -- the next place that a choice may take, of at most 24 slots; of more there is none
@@ -18,15 +18,23 @@ unfoldable pub putWithin : ℕ → ℕ → List ℕ → ℕ → List ℕ → Lis
 putWithin first room buffer number plan =
     cond (eqb (length buffer) (room * length plan)) (putPlan first room buffer number plan) buffer
 
--- a full start gets a number: the plan check passes it, and there is one for the plan after it
-unfoldable pub isNumbered : Day → List ℕ → ℕ → Bool
-isNumbered day plan number = isFeasible day plan && ltb (number + 1) (2 ^ 64)
+-- of at most 24 slots each one's sum of maximums reaches the headcount
+unfoldable pub slotsFilled : ℕ → ℕ → List ℕ → Bool
+slotsFilled slots choosers fills = leb slots 24 && allBelow slots λ slot. leb choosers (getD fills slot 0)
+
+-- what is left to test of a full start that is a node: the slots are filled, and the plan keeps its rows
+unfoldable pub fullPasses : ℕ → ℕ → List ℕ → List ℕ → List ℕ → Bool
+fullPasses slots choosers rows fills plan = slotsFilled slots choosers fills && keepsEvery plan rows
+
+-- a full start gets a number: it passes, and there is one for the plan after it
+unfoldable pub isNumbered : Bool → ℕ → Bool
+isNumbered passes number = passes && ltb (number + 1) (2 ^ 64)
 
 -- how many plans there are with it
-unfoldable pub totalWith : Day → List ℕ → ℕ → ℕ
-totalWith day plan number = cond (isNumbered day plan number) (number + 1) number
+unfoldable pub totalWith : Bool → ℕ → ℕ
+totalWith passes number = cond (isNumbered passes number) (number + 1) number
 
 -- and the buffer with it
-unfoldable pub pageWith : Day → ℕ → ℕ → List ℕ → List ℕ → ℕ → List ℕ
-pageWith day first room plan buffer number =
-    cond (isNumbered day plan number) (putWithin first room buffer number plan) buffer
+unfoldable pub pageWith : Bool → ℕ → ℕ → List ℕ → List ℕ → ℕ → List ℕ
+pageWith passes first room plan buffer number =
+    cond (isNumbered passes number) (putWithin first room buffer number plan) buffer

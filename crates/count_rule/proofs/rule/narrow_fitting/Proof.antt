@@ -5,8 +5,8 @@ use Rattle.count_rule.proofs.rule.narrow_fitting.Statement.{statement}
 use Rattle.count_rule.proofs.rule.narrow_fitting.Tie as tie
 use Rattle.count_rule.proofs.rule.narrow_fitting.Reads as reads
 use Rattle.count_rule.proofs.rule.narrow_fitting.Lts as lts
-use Rattle.count_rule.proofs.counts.fill_counts.Reads as fill-counts-reads
-use Rattle.count_rule.proofs.counts.no_counts.Reads as no-counts-reads
+use Rattle.count_rule.proofs.counts.least_counts.Reads as least-counts-reads
+use Rattle.count_rule.proofs.counts.settled_counts.Reads as settled-counts-reads
 use Rattle.count_rule.proofs.raises.raise_by_rows.Reads as raise-by-rows-reads
 use Rattle.count_rule.proofs.rule.narrow_by_least.Reads as narrow-by-least-reads
 use Rattle.table_rule.proofs.figures.first_in.Reads as first-in-reads
@@ -25,31 +25,27 @@ first-in-requires c κs = search needs
 lacks-of-requires : tie.Need-lacks-of-requires
 lacks-of-requires c κs = search needs
 
--- src/rule.rt:135:23
-no-counts-requires : tie.Need-no-counts-requires
-no-counts-requires c κs = search needs
+-- src/rule.rt:135:19
+settled-counts-requires : tie.Need-settled-counts-requires
+settled-counts-requires c κs = search needs
 
 -- src/rule.rt:136:21
-no-counts-requires-2 : tie.Need-no-counts-requires-2
-no-counts-requires-2 c κs = search needs
+least-counts-requires : tie.Need-least-counts-requires
+least-counts-requires c κs = search needs
 
 -- src/rule.rt:137:5
-fill-counts-requires : tie.Need-fill-counts-requires
-fill-counts-requires c κs = search needs
-
--- src/rule.rt:148:5
 raise-by-rows-requires : tie.Need-raise-by-rows-requires
 raise-by-rows-requires c κs = search needs
 
--- src/rule.rt:149:5
+-- src/rule.rt:138:5
 narrow-by-least-requires : tie.Need-narrow-by-least-requires
 narrow-by-least-requires c κs = search needs
 
 -- src/rule.rt:122:1
 returns : tie.Need-returns
 returns c =
-    let s = c .before .before .before .before .before .before .before .before .before .before .before .before .before .before .before .before .before .before .before .before .pre in
-    leave-are _ _ _ _ _ _ _ _ _ _ _ _ _ _ (s .0 .0) (s .0 .1) (s .1) (c .before .before .before .before .before .before .before .before .before .before .before .before .before .before .before .before .free-of .ensures) (c .before .before .before .before .before .before .before .before .before .before .before .before .before .before .before .first-in .ensures .0) (c .before .before .before .before .before .before .before .before .before .before .before .before .before .lacks-of .ensures) (c .before .before .before .before .before .before .before .before .before .before .before .before .no-counts .ensures) (c .before .before .before .before .before .before .before .before .before .before .before .no-counts2 .ensures) (c .before .before .before .before .before .before .fill-counts .ensures .0) (c .before .before .before .before .before .before .fill-counts .ensures .1) (c .before .before .before .before .raise-by-rows .ensures) (c .narrow-by-least .ensures)
+    let s = c .before .before .before .before .before .before .before .before .before .before .before .before .before .before .before .before .before .before .pre in
+    leave-are _ _ _ _ _ _ _ _ _ _ _ _ (s .0 .0) (s .0 .1) (s .1) (c .before .before .before .before .before .before .before .before .before .before .before .before .before .before .free-of .ensures) (c .before .before .before .before .before .before .before .before .before .before .before .before .before .first-in .ensures .0) (c .before .before .before .before .before .before .before .before .before .before .before .lacks-of .ensures) (c .before .before .before .before .before .before .before .before .before .settled-counts .ensures .0) (c .before .before .before .before .before .before .least-counts .ensures) (c .before .before .before .before .raise-by-rows .ensures) (c .narrow-by-least .ensures)
 
 pub narrow-fitting-spec : {M : Type 1} → statement M
 narrow-fitting-spec =
@@ -58,9 +54,8 @@ narrow-fitting-spec =
     free-of-requires
     first-in-requires
     lacks-of-requires
-    no-counts-requires
-    no-counts-requires-2
-    fill-counts-requires
+    settled-counts-requires
+    least-counts-requires
     raise-by-rows-requires
     narrow-by-least-requires
     returns)

@@ -25,7 +25,7 @@ keep-next-requires c κs = tt
 
 -- src/see.rt:66:9
 returns : tie.Need-returns
-returns c = (seen-near _ _ _ _ _ _ _ _ _ (c .before .before .before .before .counts-of .ensures) (c .before .before .before .near-end .ensures) (c .before .before .if1 .taken) (c .keep-next .ensures), refl)
+returns c = (seen-near _ _ _ _ _ _ _ _ _ _ _ (c .before .before .before .before .counts-of .ensures) (c .before .before .before .near-end .ensures) (c .before .before .if1 .taken) (c .keep-next .ensures), refl)
 
 -- src/see.rt:68:16
 look-ahead-requires : tie.Need-look-ahead-requires
@@ -41,7 +41,7 @@ same-length c = c .before .before .before .before .look-ahead .kept .1 .1 .1 .1 
 
 -- src/see.rt:50:1
 returns-2 : tie.Need-returns-2
-returns-2 c = (seen-far _ _ _ _ _ _ _ _ _ (c .before .before .before .before .before .before .before .before .before .counts-of .ensures) (c .before .before .before .before .before .before .before .before .near-end .ensures) (c .before .before .before .before .before .before .before .if1 .left) (c .before .before .before .before .look-ahead .ensures .0) (c .keep-next2 .ensures), c .before .before .before .before .look-ahead .ensures .1)
+returns-2 c = (seen-far _ _ _ _ _ _ _ _ _ _ _ (c .before .before .before .before .before .before .before .before .before .counts-of .ensures) (c .before .before .before .before .before .before .before .before .near-end .ensures) (c .before .before .before .before .before .before .before .if1 .left) (c .before .before .before .before .look-ahead .ensures .0) (c .keep-next2 .ensures), c .before .before .before .before .look-ahead .ensures .1)
 
 pub see-spec : {M : Type 1} → statement M
 see-spec =

@@ -10,22 +10,22 @@ use Rattle.table_rule.proofs.rule.narrow_fitting.Reads as narrow-fittin
 -- src/rule.rt:247:9
 returns : tie.Need-returns
 returns c =
-    rule-many-choices _ _ _ _ (c .if1 .taken)
+    rule-many-choices _ _ _ _ _ (c .if1 .taken)
 
 -- src/rule.rt:250:9
 returns-2 : tie.Need-returns-2
 returns-2 c =
-    rule-many-choosers _ _ _ _ (c .before .before .if1 .left) (c .if2 .taken)
+    rule-many-choosers _ _ _ _ _ (c .before .before .if1 .left) (c .if2 .taken)
 
 -- src/rule.rt:253:9
 returns-3 : tie.Need-returns-3
 returns-3 c =
-    rule-other-length _ _ _ _ (c .before .before .before .before .if1 .left) (c .before .before .if2 .left) (c .if3 .taken)
+    rule-other-length _ _ _ _ _ (c .before .before .before .before .if1 .left) (c .before .before .if2 .left) (c .if3 .taken)
 
 -- src/rule.rt:256:9
 returns-4 : tie.Need-returns-4
 returns-4 c =
-    rule-many-slots _ _ _ _ (c .before .before .before .before .before .before .if1 .left) (c .before .before .before .before .if2 .left) (c .before .before .if3 .left) (c .if4 .taken)
+    rule-many-slots _ _ _ _ _ (c .before .before .before .before .before .before .if1 .left) (c .before .before .before .before .if2 .left) (c .before .before .if3 .left) (c .if4 .taken)
 
 -- src/rule.rt:258:5
 narrow-fitting-requires : tie.Need-narrow-fitting-requires
@@ -34,7 +34,7 @@ narrow-fitting-requires c κs = search needs
 -- src/rule.rt:243:1
 returns-5 : tie.Need-returns-5
 returns-5 c =
-    rule-fits _ _ _ _ _ (c .before .before .before .before .before .before .before .before .if1 .left) (c .before .before .before .before .before .before .if2 .left) (c .before .before .before .before .if3 .left) (c .before .before .if4 .left) (c .narrow-fitting .ensures)
+    rule-fits _ _ _ _ _ _ (c .before .before .before .before .before .before .before .before .if1 .left) (c .before .before .before .before .before .before .if2 .left) (c .before .before .before .before .if3 .left) (c .before .before .if4 .left) (c .narrow-fitting .ensures)
 
 pub narrow-by-tables-spec : {M : Type 1} → statement M
 narrow-by-tables-spec =

@@ -1,13 +1,13 @@
 -- The loop's invariant: the tables passed have narrowed the domains.
+use mathlib.Core.Path.{_≡_, refl, _∙_, ap}
+use mathlib.Core.List.{List}
+use Prim.Native.Nat.{ℕ, _-_, _≤_}
+use native.Mathlib.Omega.{arith}
 use lib.ListN.{length}
-use Rattle.weight_tables.specs.Tables.{entryAt}
+use Rattle.weight_tables.specs.Tables.{entryAt, weightAt}
 use Rattle.place_sets.proofs.DomainLaws.{each-length}
 use Rattle.table_rule.specs.Rule.{tablesBelow}
-use Rattle.table_rule.proofs.RuleLaws.{each-start, each-step}
-use mathlib.Core.Path.{_≡_, refl, sym, _∙_, ap}
-use mathlib.Core.List.{List}
-use Prim.Native.Nat.{ℕ, _+_, _-_, _*_, _≤_}
-use native.Mathlib.Omega.{arith}
+use Rattle.table_rule.proofs.RuleLaws.{each-step}
 use borrow.Author.Needs.{needs}
 use Rattle.table_rule.proofs.rule.narrow_each.Statement.{statement}
 use Rattle.table_rule.proofs.rule.narrow_each.Tie as tie
@@ -17,40 +17,40 @@ use Rattle.table_rule.proofs.rule.narrow_once.Reads as narrow-once-read
 
 abbrev Inv-loop : tie.InvT-loop
 Inv-loop counts maxs tables free from lacks domains₀ table₀ domains table =
-    ((table ≤ 5) × (length domains ≡ 64)) × (domains ≡ tablesBelow (entryAt tables) counts maxs free from lacks table domains₀)
+    ((table ≤ 4) × (length domains ≡ 64)) × (domains ≡ tablesBelow (entryAt tables) (weightAt tables) counts maxs free from lacks table domains₀)
 
 abbrev μ-loop : tie.MeasureT-loop
 μ-loop counts maxs tables free from lacks domains₀ table₀ domains table =
-    5 - table
+    4 - table
 
--- src/rule.rt:220:5
+-- src/rule.rt:284:5
 loop-holds : tie.Need-loop-holds Inv-loop μ-loop
 unfolding tablesBelow
 loop-holds c =
     ((omega arith, c .before .pre .1 .1 .0), refl)
 
--- src/rule.rt:221:9
+-- src/rule.rt:285:9
 narrow-once-requires : tie.Need-narrow-once-requires Inv-loop μ-loop
 narrow-once-requires c κs =
     (c .before .before .before .before .pre .0, (c .before .before .before .before .pre .1 .0, (c .before .before .loop .inv .0 .1, c .before .before .before .before .pre .1 .1 .1)))
 
--- src/rule.rt:222:9
+-- src/rule.rt:286:9
 add-table : tie.Need-add-table Inv-loop μ-loop
 add-table c = search needs
 
--- src/rule.rt:220:5
+-- src/rule.rt:284:5
 loop-less : tie.Need-loop-less Inv-loop μ-loop
 loop-less c = search needs
 
--- src/rule.rt:220:5
+-- src/rule.rt:284:5
 loop-again : tie.Need-loop-again Inv-loop μ-loop
 loop-again c =
-    ((omega (arith, c .before .before .loop-test .taken), ap (λ (x : List ℕ). length x) (c .narrow-once .ensures) ∙ each-length _ _ _ ∙ c .before .before .before .loop .inv .0 .1), each-step _ _ _ _ _ _ _ _ _ _ (c .before .before .before .loop .inv .1) (c .narrow-once .ensures))
+    ((omega (arith, c .before .before .loop-test .taken), ap (λ (x : List ℕ). length x) (c .narrow-once .ensures) ∙ each-length _ _ _ ∙ c .before .before .before .loop .inv .0 .1), each-step _ _ _ _ _ _ _ _ _ _ _ (c .before .before .before .loop .inv .1) (c .narrow-once .ensures))
 
--- src/rule.rt:207:1
+-- src/rule.rt:271:1
 returns : tie.Need-returns Inv-loop μ-loop
 returns c =
-    let e : c .before .loop .table ≡ 5 = omega (arith, c .loop-test .left, c .before .loop .inv .0 .0) in rw e at (c .before .loop .inv .1)
+    let e : c .before .loop .table ≡ 4 = omega (arith, c .loop-test .left, c .before .loop .inv .0 .0) in rw e at (c .before .loop .inv .1)
 
 pub narrow-each-spec : {M : Type 1} → statement M
 narrow-each-spec =

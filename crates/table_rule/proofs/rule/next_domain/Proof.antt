@@ -1,44 +1,40 @@
 -- Free or not.
-use Rattle.weight_tables.specs.Weights.{weightOf}
-use Rattle.weight_tables.specs.Tables.{entryAt}
+use borrow.Author.Tests.{not-true, not-false}
+use Rattle.weight_tables.specs.Tables.{entryAt, weightAt}
 use Rattle.table_rule.specs.Rule.{leftOf}
 use Rattle.table_rule.proofs.RuleLaws.{next-same, next-left}
-use mathlib.Core.Path.{_≡_, refl, sym, _∙_}
-use Prim.Native.Nat.{_+_, _-_, _*_, _≤_}
-use native.Mathlib.Omega.{arith}
-use borrow.Author.Tests.{not-true, not-false}
 use borrow.Author.Needs.{needs}
 use Rattle.table_rule.proofs.rule.next_domain.Statement.{statement}
 use Rattle.table_rule.proofs.rule.next_domain.Tie as tie
 use Rattle.table_rule.proofs.rule.next_domain.Reads as reads
 use Rattle.table_rule.proofs.rule.next_domain.Lts as lts
 use Rattle.table_rule.proofs.rule.left_of.Reads as left-of-reads
-use Rattle.weight_tables.proofs.weight.weight_of.Reads as weight-of-reads
+use Rattle.weight_tables.proofs.weight.weight_at.Reads as weight-at-reads
 use Rattle.weight_tables.proofs.weight.wide_word.Reads as wide-word-reads
 
--- src/rule.rt:162:9
+-- src/rule.rt:211:9
 returns : tie.Need-returns
 returns c =
-    let a = c .before .args in next-same (a .free) (leftOf (entryAt (a .tables .now)) (a .slots) (a .table) (a .from) (a .lacks .now) (weightOf (a .choosers) (a .table) (a .most)) (a .most) (a .need) (a .spare) (a .domain)) (a .domain) (not-true (a .free) (c .if1 .taken))
+    let a = c .before .args in next-same (a .free) (leftOf (entryAt (a .tables .now)) (a .slots) (a .table) (a .from) (a .lacks .now) (weightAt (a .tables .now) (a .table) (a .choice)) (a .most) (a .need) (a .spare) (a .domain)) (a .domain) (not-true (a .free) (c .if1 .taken))
 
--- src/rule.rt:164:9
-weight-of-requires : tie.Need-weight-of-requires
-weight-of-requires c κs = search needs
+-- src/rule.rt:213:9
+weight-at-requires : tie.Need-weight-at-requires
+weight-at-requires c κs = search needs
 
--- src/rule.rt:165:56
+-- src/rule.rt:221:9
 wide-word-requires : tie.Need-wide-word-requires
 wide-word-requires c κs = search needs
 
--- src/rule.rt:165:5
+-- src/rule.rt:214:5
 left-of-requires : tie.Need-left-of-requires
 left-of-requires c κs =
-    (c .before .before .before .pre .0, (c .before .weight-of .ensures .1, c .before .before .before .pre .1))
+    (c .before .before .before .pre .0, (c .before .weight-at .ensures .1, c .before .before .before .pre .1))
 
--- src/rule.rt:145:1
+-- src/rule.rt:194:1
 returns-2 : tie.Need-returns-2
 returns-2 c =
-    next-left _ (c .before .before .before .before .args .free) _ _ _ _ _ _ _ _ _ _ _ _ (not-false (c .before .before .before .before .args .free) (c .before .before .before .if1 .left)) (c .before .before .weight-of .ensures .0) (c .before .wide-word .ensures .0) (c .left-of .ensures)
+    next-left _ (c .before .before .before .before .args .free) _ _ _ _ _ _ _ _ _ _ _ _ (not-false (c .before .before .before .before .args .free) (c .before .before .before .if1 .left)) (c .before .before .weight-at .ensures .0) (c .before .wide-word .ensures .0) (c .left-of .ensures)
 
 pub next-domain-spec : {M : Type 1} → statement M
 next-domain-spec =
-    tie.close (tie.spec returns weight-of-requires wide-word-requires left-of-requires returns-2)
+    tie.close (tie.spec returns weight-at-requires wide-word-requires left-of-requires returns-2)

@@ -1,55 +1,55 @@
 -- The loop's invariant: the tables passed are filled.
-use mathlib.Core.Path.{_≡_, refl, sym, _∙_}
-use Prim.Native.Nat.{_+_, _-_, _≤_}
+use Prim.Native.Nat.{_-_, _≤_}
 use native.Mathlib.Omega.{arith}
-use lib.ListN.{length}
+use Rattle.weight_tables.specs.Tables.{FirstFilled}
+use Rattle.weight_tables.proofs.TableLaws.{ones-length, first-none, first-more, first-done}
 use borrow.Author.Needs.{needs}
-use Rattle.weight_tables.specs.Tables.{Filling}
-use Rattle.weight_tables.proofs.TableLaws.{filling-start}
 use Rattle.weight_tables.proofs.fill.fill_each.Statement.{statement}
 use Rattle.weight_tables.proofs.fill.fill_each.Tie as tie
 use Rattle.weight_tables.proofs.fill.fill_each.Reads as reads
 use Rattle.weight_tables.proofs.fill.fill_each.Lts as lts
 use Rattle.weight_tables.proofs.fill.fill_table.Reads as fill-table-reads
-use Rattle.weight_tables.proofs.fill.told.Reads as told-reads
+use Rattle.weight_tables.proofs.weight.set_ones.Reads as set-ones-reads
 
 abbrev Inv-loop : tie.InvT-loop
 Inv-loop counts maxs tables₀ table₀ tables table =
-    (table ≤ 5) × Filling counts maxs table (counts .choices + 1) tables
+    (table ≤ 4) × FirstFilled counts maxs tables₀ table tables
 
 abbrev μ-loop : tie.MeasureT-loop
 μ-loop counts maxs tables₀ table₀ tables table =
-    5 - table
-
--- src/fill.rt:92:5
-told-requires : tie.Need-told-requires Inv-loop μ-loop
-told-requires c κs = search needs
+    4 - table
 
 -- src/fill.rt:94:5
+set-ones-requires : tie.Need-set-ones-requires Inv-loop μ-loop
+set-ones-requires c κs = search needs
+
+-- src/fill.rt:96:5
 loop-holds : tie.Need-loop-holds Inv-loop μ-loop
 loop-holds c =
-    (omega arith, filling-start _ _ _ (search needs))
+    (omega arith, first-none _ _ _ (ones-length _ _ (c .before .before .before .pre .1 .1) (c .set-ones .ensures)))
 
--- src/fill.rt:95:9
+-- src/fill.rt:97:9
 fill-table-requires : tie.Need-fill-table-requires Inv-loop μ-loop
-fill-table-requires c κs = search needs
+fill-table-requires c κs =
+    ((c .before .before .before .before .before .before .pre .0, (c .before .loop-test .taken, c .before .before .before .before .before .before .pre .1 .0)), c .before .before .loop .inv .1 .size)
 
--- src/fill.rt:96:9
+-- src/fill.rt:98:9
 add-table : tie.Need-add-table Inv-loop μ-loop
 add-table c = search needs
 
--- src/fill.rt:94:5
+-- src/fill.rt:96:5
 loop-less : tie.Need-loop-less Inv-loop μ-loop
 loop-less c = search needs
 
--- src/fill.rt:94:5
+-- src/fill.rt:96:5
 loop-again : tie.Need-loop-again Inv-loop μ-loop
-loop-again c = search needs
+loop-again c =
+    (omega (arith, c .before .before .loop-test .taken), first-more _ _ _ _ _ _ (c .before .before .before .before .before .before .before .pre .0 .0) (c .before .before .before .before .before .before .before .pre .0 .1) (c .before .before .loop-test .taken) (c .before .before .before .loop .inv .1) (c .fill-table .ensures))
 
--- src/fill.rt:88:1
+-- src/fill.rt:90:1
 returns : tie.Need-returns Inv-loop μ-loop
 returns c =
-    let e : c .before .loop .table ≡ 5 = omega (arith, c .loop-test .left, c .before .loop .inv .0) in rw e at (c .before .loop .inv .1)
+    first-done _ _ _ _ _ _ (omega (arith, c .loop-test .left, c .before .loop .inv .0)) (c .before .before .set-ones .ensures) (c .before .loop .inv .1)
 
 pub fill-each-spec : {M : Type 1} → statement M
 fill-each-spec =
@@ -57,7 +57,7 @@ fill-each-spec =
     (tie.spec
     Inv-loop
     μ-loop
-    told-requires
+    set-ones-requires
     loop-holds
     fill-table-requires
     add-table

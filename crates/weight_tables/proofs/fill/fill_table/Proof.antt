@@ -1,103 +1,106 @@
 -- The loop's invariant: the rows from the choice on are least weights.
-use mathlib.Core.Path.{_≡_, refl, sym, _∙_}
-use Prim.Native.Nat.{_+_, _-_, _≤_}
+use Prim.Native.Nat.{_-_, _≤_}
 use native.Mathlib.Omega.{arith}
-use borrow.Author.Needs.{needs}
 use Rattle.weight_tables.specs.Tables.{Filling}
-use Rattle.weight_tables.proofs.TableLaws.{filled-last, filled-row, filling-next}
+use Rattle.weight_tables.proofs.TableLaws.{filled-last, filled-row, filled-rows}
+use borrow.Author.Needs.{needs}
 use Rattle.weight_tables.proofs.fill.fill_table.Statement.{statement}
 use Rattle.weight_tables.proofs.fill.fill_table.Tie as tie
 use Rattle.weight_tables.proofs.fill.fill_table.Reads as reads
 use Rattle.weight_tables.proofs.fill.fill_table.Lts as lts
 use Rattle.weight_tables.proofs.fill.fill_last.Reads as fill-last-reads
 use Rattle.weight_tables.proofs.fill.fill_row.Reads as fill-row-reads
-use Rattle.weight_tables.proofs.weight.weight_of.Reads as weight-of-reads
+use Rattle.weight_tables.proofs.weight.weight_at.Reads as weight-at-reads
 use Rattle.weight_tables.proofs.weight.wide_word.Reads as wide-word-reads
 
 abbrev Inv-loop : tie.InvT-loop
-Inv-loop counts table maxs tables₀ entries from₀ tables from =
-    (from ≤ counts .choices) × Filling counts maxs table from tables
+Inv-loop counts table maxs tables₀ from₀ tables from =
+    (from ≤ counts .choices) × Filling counts maxs tables₀ table from tables
 
 abbrev μ-loop : tie.MeasureT-loop
-μ-loop counts table maxs tables₀ entries from₀ tables from =
+μ-loop counts table maxs tables₀ from₀ tables from =
     from
 
--- src/fill.rt:73:19
-add-entries : tie.Need-add-entries Inv-loop μ-loop
-add-entries c = search needs
-
--- src/fill.rt:75:16
+-- src/fill.rt:76:16
 mul-fill-last : tie.Need-mul-fill-last Inv-loop μ-loop
 mul-fill-last c = search needs
 
--- src/fill.rt:75:16
+-- src/fill.rt:76:16
 add-fill-last : tie.Need-add-fill-last Inv-loop μ-loop
 add-fill-last c = search needs
 
--- src/fill.rt:75:15
+-- src/fill.rt:76:15
 mul-fill-last-2 : tie.Need-mul-fill-last-2 Inv-loop μ-loop
 mul-fill-last-2 c = search needs
 
--- src/fill.rt:75:5
-fill-last-requires : tie.Need-fill-last-requires Inv-loop μ-loop
-fill-last-requires c κs =
-    (omega (arith, c .before .before .before .pre .0), c .before .before .before .pre .1 .size)
+-- src/fill.rt:76:42
+add-fill-last-2 : tie.Need-add-fill-last-2 Inv-loop μ-loop
+add-fill-last-2 c = search needs
 
 -- src/fill.rt:76:5
+fill-last-requires : tie.Need-fill-last-requires Inv-loop μ-loop
+fill-last-requires c κs =
+    (omega (arith, c .before .before .before .pre .0), c .before .before .before .pre .1)
+
+-- src/fill.rt:77:5
 loop-holds : tie.Need-loop-holds Inv-loop μ-loop
 loop-holds c =
     (omega arith, filled-last _ _ _ _ _ (c .before .before .before .before .pre .0 .0 .0) (c .before .before .before .before .pre .0 .0 .1) (c .before .before .before .before .pre .0 .1 .0) (c .before .before .before .before .pre .1) (c .fill-last .ensures))
 
--- src/fill.rt:77:9
+-- src/fill.rt:78:9
 sub-from : tie.Need-sub-from Inv-loop μ-loop
 sub-from c = search needs
 
--- src/fill.rt:78:20
-mul-most : tie.Need-mul-most Inv-loop μ-loop
-mul-most c = search needs
+-- src/fill.rt:79:30
+mul-wide-word : tie.Need-mul-wide-word Inv-loop μ-loop
+mul-wide-word c = search needs
 
--- src/fill.rt:78:20
-shared-slice-read-most : tie.Need-shared-slice-read-most Inv-loop μ-loop
-shared-slice-read-most c = search needs
+-- src/fill.rt:79:30
+shared-slice-read-wide-word : tie.Need-shared-slice-read-wide-word Inv-loop μ-loop
+shared-slice-read-wide-word c = search needs
 
 -- src/fill.rt:79:13
-weight-of-requires : tie.Need-weight-of-requires Inv-loop μ-loop
-weight-of-requires c κs = search needs
-
--- src/fill.rt:80:19
-mul-fill-row : tie.Need-mul-fill-row Inv-loop μ-loop
-mul-fill-row c = search needs
-
--- src/fill.rt:80:19
-add-fill-row : tie.Need-add-fill-row Inv-loop μ-loop
-add-fill-row c = search needs
-
--- src/fill.rt:80:18
-mul-fill-row-2 : tie.Need-mul-fill-row-2 Inv-loop μ-loop
-mul-fill-row-2 c = search needs
-
--- src/fill.rt:80:62
 wide-word-requires : tie.Need-wide-word-requires Inv-loop μ-loop
 wide-word-requires c κs = search needs
 
--- src/fill.rt:80:9
+-- src/fill.rt:80:13
+weight-at-requires : tie.Need-weight-at-requires Inv-loop μ-loop
+weight-at-requires c κs = search needs
+
+-- src/fill.rt:81:23
+add-entries : tie.Need-add-entries Inv-loop μ-loop
+add-entries c = search needs
+
+-- src/fill.rt:82:19
+mul-fill-row : tie.Need-mul-fill-row Inv-loop μ-loop
+mul-fill-row c = search needs
+
+-- src/fill.rt:82:19
+add-fill-row : tie.Need-add-fill-row Inv-loop μ-loop
+add-fill-row c = search needs
+
+-- src/fill.rt:82:18
+mul-fill-row-2 : tie.Need-mul-fill-row-2 Inv-loop μ-loop
+mul-fill-row-2 c = search needs
+
+-- src/fill.rt:82:9
 fill-row-requires : tie.Need-fill-row-requires Inv-loop μ-loop
 fill-row-requires c κs =
-    ((omega (arith, c .before .before .before .before .before .before .before .before .before .before .pre .0, c .before .before .before .before .before .loop .inv .0, c .before .before .before .before .loop-test .taken), omega (arith, c .before .before .before .before .before .before .before .before .before .before .pre .0)), (c .before .before .weight-of .ensures .1, c .before .before .before .before .before .loop .inv .1 .size))
+    ((omega (arith, c .before .before .before .before .before .before .before .before .before .before .before .before .pre .0, c .before .before .before .before .before .before .before .loop .inv .0, c .before .before .before .before .before .before .loop-test .taken), omega (arith, c .before .before .before .before .before .before .before .before .before .before .before .before .pre .0)), (c .before .before .weight-at .ensures .1, c .before .before .before .before .before .before .before .loop .inv .1 .size))
 
--- src/fill.rt:76:5
+-- src/fill.rt:77:5
 loop-less : tie.Need-loop-less Inv-loop μ-loop
 loop-less c = search needs
 
--- src/fill.rt:76:5
+-- src/fill.rt:77:5
 loop-again : tie.Need-loop-again Inv-loop μ-loop
 loop-again c =
-    (omega (arith, c .before .before .before .before .before .before .loop .inv .0), filled-row _ _ _ _ _ _ _ _ _ (c .before .before .before .before .before .before .before .before .before .before .before .pre .0 .0 .0) (c .before .before .before .before .before .before .before .before .before .before .before .pre .0 .0 .1) (c .before .before .before .before .before .before .before .before .before .before .before .pre .0 .1 .0) (omega (arith, c .before .before .before .before .before .loop-test .taken)) (c .before .before .before .before .before .before .loop .inv .0) (c .before .before .before .weight-of .ensures .0) (c .before .before .wide-word .ensures .0) (c .before .before .before .before .before .before .loop .inv .1) (c .fill-row .ensures))
+    (omega (arith, c .before .before .before .before .before .before .before .before .loop .inv .0), filled-row _ _ _ _ _ _ _ _ _ _ (c .before .before .before .before .before .before .before .before .before .before .before .before .before .pre .0 .0 .0) (c .before .before .before .before .before .before .before .before .before .before .before .before .before .pre .0 .0 .1) (c .before .before .before .before .before .before .before .before .before .before .before .before .before .pre .0 .1 .0) (omega (arith, c .before .before .before .before .before .before .before .loop-test .taken)) (c .before .before .before .before .before .before .before .before .loop .inv .0) (c .before .before .before .weight-at .ensures .0) (c .before .before .before .before .before .wide-word .ensures .0) (c .before .before .before .before .before .before .before .before .loop .inv .1) (c .fill-row .ensures))
 
--- src/fill.rt:68:1
+-- src/fill.rt:70:1
 returns : tie.Need-returns Inv-loop μ-loop
 returns c =
-    filling-next _ _ _ _ _ (omega (arith, c .loop-test .left)) (c .before .loop .inv .1)
+    filled-rows _ _ _ _ _ _ _ (c .before .before .before .before .before .before .pre .0 .0 .0) (c .before .before .before .before .before .before .pre .0 .0 .1) (c .before .before .before .before .before .before .pre .0 .1 .0) (c .before .before .before .before .before .before .pre .1) (c .before .before .fill-last .ensures) (omega (arith, c .loop-test .left)) (c .before .loop .inv .1)
 
 pub fill-table-spec : {M : Type 1} → statement M
 fill-table-spec =
@@ -105,20 +108,21 @@ fill-table-spec =
     (tie.spec
     Inv-loop
     μ-loop
-    add-entries
     mul-fill-last
     add-fill-last
     mul-fill-last-2
+    add-fill-last-2
     fill-last-requires
     loop-holds
     sub-from
-    mul-most
-    shared-slice-read-most
-    weight-of-requires
+    mul-wide-word
+    shared-slice-read-wide-word
+    wide-word-requires
+    weight-at-requires
+    add-entries
     mul-fill-row
     add-fill-row
     mul-fill-row-2
-    wide-word-requires
     fill-row-requires
     loop-less
     loop-again

@@ -1,5 +1,4 @@
 -- Each refusal leaves the array, and the rest is filled.
-use native.Mathlib.Omega.{arith}
 use Rattle.weight_tables.proofs.TableLaws.{fills-many-choices, fills-many-choosers, fills-other-length, fills-all}
 use borrow.Author.Needs.{needs}
 use Rattle.weight_tables.proofs.fill.fill_tables.Statement.{statement}
@@ -7,30 +6,36 @@ use Rattle.weight_tables.proofs.fill.fill_tables.Tie as tie
 use Rattle.weight_tables.proofs.fill.fill_tables.Reads as reads
 use Rattle.weight_tables.proofs.fill.fill_tables.Lts as lts
 use Rattle.weight_tables.proofs.fill.fill_each.Reads as fill-each-reads
+use Rattle.weight_tables.proofs.fill.told.Reads as told-reads
 
--- src/fill.rt:105:9
+-- src/fill.rt:107:9
 returns : tie.Need-returns
 returns c =
     fills-many-choices _ _ _ (c .if1 .taken)
 
--- src/fill.rt:108:9
+-- src/fill.rt:110:9
 returns-2 : tie.Need-returns-2
 returns-2 c =
     fills-many-choosers _ _ _ (c .before .before .if1 .left) (c .if2 .taken)
 
--- src/fill.rt:111:9
+-- src/fill.rt:113:9
 returns-3 : tie.Need-returns-3
 returns-3 c =
     fills-other-length _ _ _ (c .before .before .before .before .if1 .left) (c .before .before .if2 .left) (c .if3 .taken)
 
--- src/fill.rt:113:5
+-- src/fill.rt:115:5
+told-requires : tie.Need-told-requires
+told-requires c κs = search needs
+
+-- src/fill.rt:116:5
 fill-each-requires : tie.Need-fill-each-requires
 fill-each-requires c κs = search needs
 
--- src/fill.rt:101:1
+-- src/fill.rt:103:1
 returns-4 : tie.Need-returns-4
 returns-4 c =
-    fills-all _ _ _ _ (c .before .before .before .before .before .before .if1 .left) (c .before .before .before .before .if2 .left) (c .before .before .if3 .left) (c .fill-each .ensures)
+    fills-all _ _ _ _ (c .before .before .before .before .before .before .before .before .before .if1 .left) (c .before .before .before .before .before .before .before .if2 .left) (c .before .before .before .before .before .if3 .left) (search needs) (c .fill-each .ensures)
 
 pub fill-tables-spec : {M : Type 1} → statement M
-fill-tables-spec = tie.close (tie.spec returns returns-2 returns-3 fill-each-requires returns-4)
+fill-tables-spec =
+    tie.close (tie.spec returns returns-2 returns-3 told-requires fill-each-requires returns-4)

@@ -1,0 +1,3 @@
+-- Laws of the open places.
+pub mod OpenLaws
+pub mod SlotLaws

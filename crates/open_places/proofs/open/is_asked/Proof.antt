@@ -1,0 +1,24 @@
+-- Each limit that the tables have.
+use Rattle.open_places.proofs.SlotLaws.{asked-choosers, asked-choices, asked-choice}
+use Rattle.open_places.proofs.open.is_asked.Statement.{statement}
+use Rattle.open_places.proofs.open.is_asked.Tie as tie
+use Rattle.open_places.proofs.open.is_asked.Reads as reads
+use Rattle.open_places.proofs.open.is_asked.Lts as lts
+
+-- src/open.rt:43:9
+returns : tie.Need-returns
+returns c =
+    asked-choosers _ _ (c .before .before .pre) (c .if1 .taken)
+
+-- src/open.rt:46:9
+returns-2 : tie.Need-returns-2
+returns-2 c =
+    asked-choices _ _ (c .before .before .before .before .pre) (c .before .before .if1 .left) (c .if2 .taken)
+
+-- src/open.rt:38:1
+returns-3 : tie.Need-returns-3
+returns-3 c =
+    asked-choice _ _ (c .before .before .before .before .before .pre) (c .before .before .before .if1 .left) (c .before .if2 .left)
+
+pub is-asked-spec : {M : Type 1} → statement M
+is-asked-spec = tie.close (tie.spec returns returns-2 returns-3)

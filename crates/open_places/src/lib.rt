@@ -1,0 +1,3 @@
+// The places that the next choice may take.
+
+pub mod open;

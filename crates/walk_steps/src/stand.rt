@@ -1,0 +1,112 @@
+// What the walk does at a place: the sums with the choice there, and without it again.
+use super::next::next_of;
+use listing_nodes::nodes::wide;
+use listing_starts::full::SLOTS;
+use listing_starts::places::place_at;
+use plan_rows::plan::OMITTED;
+use weight_tables::entry::less;
+ghost use mathlib.Core.Path.{_≡_};
+ghost use Prim.Native.Nat.{_<_, _^_};
+ghost use lib.ListN.{getD};
+ghost use Rattle.walk_steps.specs.Stand.{putAt, addedAt, takenAt, Taken, LeftPlace};
+
+// Where a choice stands, and the minimum and the maximum that it brings there.
+pub struct Stood {
+    pub place: usize,
+    pub least: usize,
+    pub most: usize,
+}
+
+// A choice's minimum or maximum, 0 of one past the list.
+fn amount_of(amounts: &[u16], choice: usize) -> usize
+    ensures { λ r. ⌜ (r ≡ getD (now (amounts .entry)) choice 0) × (r < 2 ^ 16) ⌝ }
+{
+    if amounts.len() <= choice {
+        return 0;
+    }
+    wide(amounts[choice])
+}
+
+// The plan with the choice at a place, by its number in a domain.
+fn put_place(slots: usize, choice: usize, place: usize, plan: &mut [u8])
+    ensures { λ _. ⌜ now (plan .exit) ≡ putAt slots choice place (now (plan .entry)) ⌝ }
+{
+    if 24 < slots {
+        return;
+    }
+    if plan.len() <= choice {
+        return;
+    }
+    if slots <= place {
+        plan[choice] = OMITTED;
+        return;
+    }
+    plan[choice] = place as u8;
+}
+
+// The sums with an amount more at a place.
+fn add_at(slots: usize, place: usize, amount: usize, sums: &mut [usize; 24])
+    ensures { λ _. ⌜ now (sums .exit) ≡ addedAt slots place amount (now (sums .entry)) ⌝ }
+{
+    if 24 < slots {
+        return;
+    }
+    if slots <= place {
+        return;
+    }
+    sums[place] = std::num::wrapping_add_usize(sums[place], amount);
+}
+
+// And with it away again.
+fn take_at(slots: usize, place: usize, amount: usize, sums: &mut [usize; 24])
+    ensures { λ _. ⌜ now (sums .exit) ≡ takenAt slots place amount (now (sums .entry)) ⌝ }
+{
+    if 24 < slots {
+        return;
+    }
+    if slots <= place {
+        return;
+    }
+    sums[place] = less(sums[place], amount);
+}
+
+// The choice stands at the place with so many left, itself among them; the answer is what it leaves by.
+pub fn take_place(
+    asked: &[usize; 6],
+    mins: &&[u16],
+    maxs: &&[u16],
+    choice: usize,
+    left: usize,
+    plan: &mut &mut [u8],
+    sums: &mut [usize; 24],
+    fills: &mut [usize; 24],
+) -> Stood
+    ensures { λ r. ⌜ Taken (getD (now (asked .entry)) 1 0) choice left (now (now (mins .entry))) (now (now (maxs .entry))) (now (now (plan .entry))) (now (now (plan .exit))) (now (sums .entry)) (now (sums .exit)) (now (fills .entry)) (now (fills .exit)) (r .place) (r .least) (r .most) ⌝ }
+{
+    let slots = asked[SLOTS];
+    let place = place_at(slots, left);
+    let least = amount_of(*mins, choice);
+    let most = amount_of(*maxs, choice);
+    put_place(slots, choice, place, *plan);
+    add_at(slots, place, least, sums);
+    add_at(slots, place, most, fills);
+    Stood { place, least, most }
+}
+
+// And leaves it: the sums are as they were. The answer is how many places are left from its next one on, 0 if there is none.
+pub fn leave_place(
+    asked: &[usize; 6],
+    stood: Stood,
+    choice: usize,
+    left: usize,
+    domains: &[u64; 64],
+    sums: &mut [usize; 24],
+    fills: &mut [usize; 24],
+) -> usize
+    ensures { λ r. ⌜ LeftPlace (getD (now (asked .entry)) 1 0) left (getD (now (domains .entry)) choice 0) (stood .place) (stood .least) (stood .most) (now (sums .entry)) (now (sums .exit)) (now (fills .entry)) (now (fills .exit)) r ⌝ }
+{
+    let slots = asked[SLOTS];
+    take_at(slots, stood.place, stood.least, sums);
+    take_at(slots, stood.place, stood.most, fills);
+    next_of(slots, choice, domains, less(left, 1))
+}
