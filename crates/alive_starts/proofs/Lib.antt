@@ -5,3 +5,4 @@ pub mod Visits
 pub mod RunLaws
 pub mod PageHolds
 pub mod OnePage
+pub mod SameEvents

@@ -31,7 +31,7 @@ use Rattle.weight_tables.specs.Weights.{least, leastOf, sumFrom}
 use Rattle.weight_tables.specs.Tables.{tablesFit, Filled, entryAt, weightAt, written}
 use Rattle.weight_tables.proofs.WeightLaws.{sum-join, from-ext, from-le, below-le, below-add, below-zeros, least-weighs, slots-weigh}
 use Rattle.weight_tables.proofs.TableLaws.{written-in, written-length, entry-least}
-use Rattle.weight_tables.proofs.EnoughLaws.{stands-only}
+use Rattle.weight_tables.proofs.StartLaws.{stands-only}
 use Rattle.place_sets.specs.Domains.{placeNumber, Within, settled, bothPlaces, eachBelow}
 use Rattle.place_sets.proofs.DomainLaws.{number-in, number-le, number-stands, settled-one, both-stays, each-length, each-within, within-at}
 use Rattle.table_rule.specs.Figures.{freeOf, firstIn, settledIn, lackOf, lacksOf}

@@ -11,7 +11,7 @@ use Rattle.scheduling.specs.Day.{Day}
 use Rattle.listing_nodes.specs.Placements.{nodes}
 use Rattle.alive_starts.specs.Page.{PageTold, settled}
 use Rattle.alive_starts.proofs.OnePage.{one-page, enough-turns}
-use Rattle.plan_walk.specs.Page.{Fits, refuses, gives}
+use Rattle.plan_pages.specs.Page.{Fits, refuses, gives}
 use Rattle.exports.specs.Pages.{PageCrosses}
 
 -- the answer isn't that turns ran out

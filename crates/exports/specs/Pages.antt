@@ -7,7 +7,7 @@ use Rattle.call_figures.specs.Layouts.{pagedFigures}
 use Rattle.constraint.specs.Told.{Told}
 use Rattle.scheduling.specs.Day.{Day}
 use Rattle.alive_starts.specs.Page.{PageTold}
-use Rattle.plan_walk.specs.Page.{Fits}
+use Rattle.plan_pages.specs.Page.{Fits}
 
 -- what crosses is an answer of the library that fits the day, with the buffer that it leaves
 pub record PageCrosses (day : Day) (first room budget : ℕ) (buffer : List ℕ) (left : Crossed (List ℕ)) : Type 0 where

@@ -6,7 +6,7 @@ use call_figures::plan::put_paged;
 use call_figures::plan::put_roster;
 use constraint::check::Counts;
 use listing::list_plans::list_plans;
-use plan_walk::page::list_page;
+use plan_pages::page::list_page;
 use scheduling::plan_check::check_plan;
 use scoring::roster_check::check_roster;
 ghost use mathlib.Core.Path.{_≡_};

@@ -6,15 +6,13 @@ use super::kinds::size_of;
 use super::lightest::fill_rows;
 use super::lightest::take_lightest;
 use super::lightest::weigh_choices;
-use super::simplex::clear_column;
-use super::simplex::leaving_row;
-use super::simplex::no_program;
-use super::simplex::pivot;
-use super::simplex::start;
-use super::simplex::turn_column;
-use super::simplex::weigh_absent;
-use super::simplex::weigh_kinds;
 use constraint::check::Counts;
+use linear_program::absent::weigh_absent;
+use linear_program::simplex::bring_column;
+use linear_program::simplex::clear_column;
+use linear_program::simplex::no_program;
+use linear_program::simplex::start;
+use linear_program::simplex::weigh_kinds;
 ghost use mathlib.Core.Path.{_≡_};
 ghost use Prim.Native.Nat.{_≤_, _<_};
 ghost use lib.ListN.{length};
@@ -45,7 +43,6 @@ fn bring_in(
     program: &mut [f64; 4416],
 ) -> bool
     requires { ⌜ ((table < 4) × (choosers ≤ 200)) × ((first ≤ length (now maxs)) × (length (now maxs) ≤ 64)) ⌝ }
-    requires { ⌜ known ≤ 64 ⌝ }
 {
     weigh_kinds(known, program);
     weigh_choices(table, maxs.len(), kinds, program, tables);
@@ -55,13 +52,7 @@ fn bring_in(
     }
     clear_column(known, program);
     take_lightest(table, first, choosers, maxs, kinds, tables, program);
-    turn_column(known, program);
-    let row = leaving_row(known, program);
-    if 64 <= row {
-        return false;
-    }
-    pivot(row, known, program);
-    true
+    bring_column(known, program)
 }
 
 // Sets come into the basis until none is too light, 60 at most.
@@ -76,7 +67,6 @@ fn bring_all(
     program: &mut [f64; 4416],
 )
     requires { ⌜ ((table < 4) × (choosers ≤ 200)) × ((first ≤ length (now maxs)) × (length (now maxs) ≤ 64)) ⌝ }
-    requires { ⌜ known ≤ 64 ⌝ }
 {
     let mut turns = 60usize;
     while 0 < turns {
@@ -99,7 +89,6 @@ fn fit_table(
     tables: &mut [u16; 52516],
 )
     requires { ⌜ ((table < 4) × (slots ≤ 24)) × ((choosers ≤ 200) × (length (now maxs) ≤ 64)) ⌝ }
-    requires { ⌜ known ≤ 64 ⌝ }
 {
     let first = first_of(slots, choosers, maxs);
     let mut many = [0u16; 64];

@@ -1,7 +1,7 @@
 // Choices of one size are of one kind: the linear program has a row for each kind, not for each choice.
 use weight_tables::entry::less;
 use weight_tables::weight::wide_word;
-ghost use Prim.Native.Nat.{_+_, _≤_, _<_};
+ghost use Prim.Native.Nat.{_+_, _≤_};
 ghost use lib.ListN.{length};
 
 // How many heads of a choice count in a slot: no more than there are choosers.
@@ -93,41 +93,4 @@ pub(crate) fn count_kinds(first: usize, choices: usize, kinds: &[usize; 64], man
         }
         choice += 1;
     }
-}
-
-// The kind, where the day's end has it and it is smaller than the size and larger than the best so far; else the best so far.
-fn nearer(best: usize, kind: usize, size: usize, sizes: &[usize; 64], many: &[u16; 64]) -> usize
-    requires { ⌜ kind < 64 ⌝ }
-{
-    if many[kind] == 0 {
-        return best;
-    }
-    if size <= sizes[kind] {
-        return best;
-    }
-    if 64 <= best {
-        return kind;
-    }
-    if sizes[kind] <= sizes[best] {
-        return best;
-    }
-    kind
-}
-
-// The largest kind that is smaller than a size and that the day's end has, 64 if there is none.
-pub(crate) fn next_smaller(
-    size: usize,
-    known: usize,
-    sizes: &[usize; 64],
-    many: &[u16; 64],
-) -> usize
-    requires { ⌜ known ≤ 64 ⌝ }
-{
-    let mut best = 64;
-    let mut kind = 0;
-    while kind < known {
-        best = nearer(best, kind, size, sizes, many);
-        kind += 1;
-    }
-    best
 }

@@ -3,4 +3,3 @@
 pub mod fit;
 mod kinds;
 mod lightest;
-mod simplex;

@@ -1,6 +1,6 @@
 // The lightest set of the day's last choices that fills a slot, by the rows of a table.
-use super::simplex::COLUMN;
-use super::simplex::weight_of;
+use linear_program::simplex::COLUMN;
+use linear_program::simplex::weight_of;
 use weight_tables::entry::less;
 use weight_tables::weight::wide_word;
 ghost use Prim.Native.Nat.{_+_, _≤_, _<_};

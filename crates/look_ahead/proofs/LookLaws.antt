@@ -10,15 +10,15 @@ use lib.Dec.{eqb, ltb, leb}
 use lib.ListN.{length, getD, set, take, replicate, length-set, length-replicate}
 use lib.Seq.{getD-take, getD-set-same}
 use Rattle.lists.specs.Below.{allBelow}
-use Rattle.lists.proofs.Below.{each-all, and-both}
+use Rattle.lists.proofs.Below.{each-all, and-both, and-left, and-right}
 use Rattle.constraint.specs.Row.{rowOf}
 use Rattle.constraint.specs.declared.check.Counts.{Counts}
 use Rattle.constraint.specs.declared.row.Row.{Row}
 use Rattle.scheduling.specs.Day.{Day}
 use Rattle.scheduling.specs.Plan.{slotOf, sumIn}
 use Rattle.scheduling.specs.Feasible.{feasible}
-use Rattle.choice_sets.specs.Sets.{has}
-use Rattle.choice_sets.proofs.SetLaws.{has-past}
+use Rattle.choice_sets.specs.Sets.{has, setOf}
+use Rattle.choice_sets.proofs.SetLaws.{has-past, has-set, has-set-past}
 use Rattle.place_sets.specs.Domains.{placeNumber, onlyPlace, Within}
 use Rattle.place_sets.proofs.DomainLaws.{number-le, only-has, each-length, within-at, set-within, feasible-place, past-none}
 use Rattle.listing_nodes.specs.steps.Walk.{placeOf, placeFits}
@@ -30,14 +30,15 @@ use Rattle.row_rules.specs.RowRules.{rowRule}
 use Rattle.row_rules.specs.RowsRule.{anyRule, rowsRule}
 use Rattle.row_rules.proofs.RowsLaws.{row-length, rows-within}
 use Rattle.table_rule.specs.Figures.{freeOf, firstIn, lacksOf}
-use Rattle.table_rule.specs.Enough.{enoughPlaces}
-use Rattle.table_rule.specs.Rule.{tableRule, tablesBelow, fourTables, tablesRule}
+use Rattle.table_rule.specs.Enough.{lacksAt, weightAfter, enoughWith, enoughAsked, enoughPlaces}
+use Rattle.table_rule.specs.Rule.{needOf, slotKept, tableRule, tablesBelow, fourTables, tablesRule}
 use Rattle.table_rule.proofs.WithinLaws.{tables-within}
 use Rattle.table_rule.proofs.EnoughPlaces.{enough-keeps}
 use Rattle.count_rule.specs.CountRule.{countsRule}
 use Rattle.count_rule.proofs.CountLaws.{counts-length, counts-within}
 use Rattle.open_places.specs.Open.{openAt, openPlaces}
 use Rattle.open_places.proofs.OpenLaws.{open-has, open-fits}
+use Rattle.decided_rows.specs.Leaves.{rowsLeave}
 use Rattle.look_ahead.specs.Look.{decided, alive, aliveOr, weighed, lookedAhead, nearEnd, openedAt, seenAt}
 
 -- ---- the last choice stands where the plan has it
@@ -173,70 +174,70 @@ module _ (counts : Counts) (mins maxs rows tables plan : List ℕ) (choice : ℕ
 
 -- ---- as the walk sees it
 
-opened-length : (counts : Counts) (mins maxs optional tables : List ℕ) (choice : ℕ) (sums fills domains : List ℕ)
-    → length (openedAt counts mins maxs optional tables choice sums fills domains) ≡ length domains
-unfolding openedAt
-opened-length counts mins maxs optional tables choice sums fills domains = go (ltb choice 64)
-  where
-    go : (b : Bool) → length (cond b (set domains choice (openPlaces (entryAt tables) counts mins maxs optional choice sums fills (getD domains choice 0))) domains) ≡ length domains
-    go true = length-set domains choice (openPlaces (entryAt tables) counts mins maxs optional choice sums fills (getD domains choice 0))
-    go false = refl
+module _ (counts : Counts) (mins maxs rows tables plan : List ℕ) (choice : ℕ) (domains : List ℕ) where
+  -- of a plan the places before the choice matter alone
+  pub seen-start : choice ≤ length plan → seenAt counts mins maxs rows tables (take choice plan) choice domains ≡ seenAt counts mins maxs rows tables plan choice domains
+  unfolding seenAt
+  seen-start h =
+      ap (λ (l : List ℕ). cond (nearEnd (counts .choices) choice) domains l)
+      (looked-start counts mins maxs rows tables plan choice domains h)
 
--- every place that the next choice has fits
-opened-fits : (counts : Counts) (mins maxs optional tables : List ℕ) (choice : ℕ) (sums fills domains : List ℕ) → counts .slots ≤ 24 → choice < 64 → (at : ℕ) → at ≤ counts .slots
-    → has (getD (openedAt counts mins maxs optional tables choice sums fills domains) choice 0) at ≡ true
-    → placeFits (counts .slots) (counts .choosers) mins optional sums choice (placeOf (counts .slots) at) ≡ true
-unfolding openedAt
-opened-fits counts mins maxs optional tables choice sums fills domains few h at k t = go (ltb choice (length domains)) refl
-  where
-    open-now : ℕ
-    open-now = openPlaces (entryAt tables) counts mins maxs optional choice sums fills (getD domains choice 0)
-
-    held : has (getD (set domains choice open-now) choice 0) at ≡ true
-    held = rw (lt-ltb choice 64 h) at t
-
-    go : (b : Bool) → ltb choice (length domains) ≡ b → placeFits (counts .slots) (counts .choosers) mins optional sums choice (placeOf (counts .slots) at) ≡ true
-    go true i =
-        open-fits (entryAt tables) counts mins maxs optional choice sums fills (getD domains choice 0) few at k
-        (ap (λ (d : ℕ). has d at) (sym (getD-set-same domains choice open-now 0 (ltb-true choice (length domains) i))) ∙ held)
-    go false i =
-        let e : 0 ≡ getD (set domains choice open-now) choice 0 =
-        past-none (set domains choice open-now) choice (omega (arith, length-set domains choice open-now, ltb-false choice (length domains) i)) in
-        absurd (false≢true (sym (has-none at) ∙ ap (λ (d : ℕ). has d at) e ∙ held))
-
-module _ (counts : Counts) (mins maxs optional rows tables plan : List ℕ) (choice : ℕ) (sums fills domains : List ℕ) where
-  -- what the walk goes on with near the end, and before it
-  before-length : length domains ≡ 64 → length (cond (nearEnd (counts .choices) choice) domains (lookedAhead counts mins maxs rows tables plan choice domains)) ≡ 64
-  before-length l = go (nearEnd (counts .choices) choice)
+  pub seen-length : length domains ≡ 64 → length (seenAt counts mins maxs rows tables plan choice domains) ≡ 64
+  unfolding seenAt
+  seen-length l = go (nearEnd (counts .choices) choice)
     where
       go : (b : Bool) → length (cond b domains (lookedAhead counts mins maxs rows tables plan choice domains)) ≡ 64
       go true = l
       go false = looked-length counts mins maxs rows tables plan choice domains l
 
-  -- of a plan the places before the choice matter alone
-  pub seen-start : choice ≤ length plan
-      → seenAt counts mins maxs optional rows tables (take choice plan) choice sums fills domains ≡ seenAt counts mins maxs optional rows tables plan choice sums fills domains
+  -- near the end the domains as they are, before it as a look ahead leaves them
+  pub seen-near : nearEnd (counts .choices) choice ≡ true → domains ≡ seenAt counts mins maxs rows tables plan choice domains
   unfolding seenAt
-  seen-start h =
-      ap (λ (l : List ℕ). openedAt counts mins maxs optional tables choice sums fills (cond (nearEnd (counts .choices) choice) domains l))
-      (looked-start counts mins maxs rows tables plan choice domains h)
+  seen-near t = sym (rw t)
 
-  pub seen-length : length domains ≡ 64 → length (seenAt counts mins maxs optional rows tables plan choice sums fills domains) ≡ 64
+  pub seen-far : nearEnd (counts .choices) choice ≡ false → lookedAhead counts mins maxs rows tables plan choice domains ≡ seenAt counts mins maxs rows tables plan choice domains
   unfolding seenAt
-  seen-length l =
-      opened-length counts mins maxs optional tables choice sums fills (cond (nearEnd (counts .choices) choice) domains (lookedAhead counts mins maxs rows tables plan choice domains))
-      ∙ before-length l
+  seen-far f = sym (rw f)
 
-  -- every place that the next choice has fits
-  pub seen-open : counts .slots ≤ 24 → choice < 64 → (at : ℕ) → at ≤ counts .slots
-      → has (getD (seenAt counts mins maxs optional rows tables plan choice sums fills domains) choice 0) at ≡ true
-      → placeFits (counts .slots) (counts .choosers) mins optional sums choice (placeOf (counts .slots) at) ≡ true
-  unfolding seenAt
-  seen-open =
-      opened-fits counts mins maxs optional tables choice sums fills (cond (nearEnd (counts .choices) choice) domains (lookedAhead counts mins maxs rows tables plan choice domains))
+-- what is open is in the domain, as far as the choices after ask for
+enough-inside : (entry : ℕ → ℕ → ℕ → ℕ) (weight : ℕ → ℕ → ℕ) (counts : Counts) (choice most : ℕ) (fills : List ℕ) (domain at : ℕ)
+    → has (enoughPlaces entry weight counts choice most fills domain) at ≡ true → has domain at ≡ true
+unfolding enoughPlaces enoughWith slotKept
+enough-inside entry weight counts choice most fills domain at t =
+    go (enoughAsked counts choice) (leb (needOf entry (counts .slots) 1 (choice + 1) (lacksAt (counts .choosers) (counts .slots) fills)) (weightAfter weight (counts .choices) (choice + 1))) t
+  where
+    kept : ℕ → Bool
+    kept =
+        slotKept entry 1 (choice + 1) (lacksAt (counts .choosers) (counts .slots) fills) 0 most (needOf entry (counts .slots) 1 (choice + 1) (lacksAt (counts .choosers) (counts .slots) fills))
+        (weightAfter weight (counts .choices) (choice + 1)) domain
+
+    in-domain : (b : Bool) → ltb at (counts .slots) ≡ b → has (setOf (counts .slots) kept) at ≡ true → has domain at ≡ true
+    in-domain true l h = and-left (has domain at) _ (sym (has-set (counts .slots) kept at (ltb-true at (counts .slots) l)) ∙ h)
+    in-domain false l h = absurd (false≢true (sym (has-set-past (counts .slots) kept at (ltb-false at (counts .slots) l)) ∙ h))
+
+    go : (asked enough : Bool) → has (cond asked (cond enough domain (setOf (counts .slots) kept)) domain) at ≡ true → has domain at ≡ true
+    go true true h = h
+    go true false h = in-domain (ltb at (counts .slots)) refl h
+    go false enough h = h
+
+module _ (counts : Counts) (mins maxs optional rows tables plan : List ℕ) (choice : ℕ) (sums fills : List ℕ) (domain : ℕ) (few : counts .slots ≤ 24) (at : ℕ) (low : at ≤ counts .slots)
+    (t : has (openedAt counts mins maxs optional rows tables plan choice sums fills domain) at ≡ true) where
+  -- every place that is open fits
+  pub opened-fits : placeFits (counts .slots) (counts .choosers) mins optional sums choice (placeOf (counts .slots) at) ≡ true
+  unfolding openedAt
+  opened-fits = open-fits (entryAt tables) (weightAt tables) counts mins maxs optional choice sums fills (rowsLeave (counts .slots) choice plan rows domain) few at low t
+
+  -- and is one that the decided rows leave
+  pub opened-left : has (rowsLeave (counts .slots) choice plan rows domain) at ≡ true
+  unfolding openedAt openAt
+  opened-left =
+      enough-inside (entryAt tables) (weightAt tables) counts choice (getD maxs choice 0) fills (rowsLeave (counts .slots) choice plan rows domain) at
+      (and-right (placeFits (counts .slots) (counts .choosers) mins optional sums choice (placeOf (counts .slots) at))
+      (has (enoughPlaces (entryAt tables) (weightAt tables) counts choice (getD maxs choice 0) fills (rowsLeave (counts .slots) choice plan rows domain)) at)
+      (sym (open-has (entryAt tables) (weightAt tables) counts mins maxs optional choice sums fills (rowsLeave (counts .slots) choice plan rows domain) few at low) ∙ t))
 
 -- a slot, or omission, is the place of its number
-place-back : (slots place : ℕ) → slots ≤ 24 → (place < slots) ⊎ (place ≡ 255) → placeOf slots (placeNumber slots place) ≡ place
+pub place-back : (slots place : ℕ) → slots ≤ 24 → (place < slots) ⊎ (place ≡ 255) → placeOf slots (placeNumber slots place) ≡ place
 unfolding placeOf placeNumber
 place-back slots place few (inl h) = rw (lt-ltb place slots h) (rw (lt-ltb place slots h))
 place-back slots place few (inr e) =
@@ -281,32 +282,31 @@ module _ (day : Day) (tables : List ℕ) (looks : Looks day tables) (plan : List
       (alive-within (day .counts .slots) plan (day .counts .choices) (rowsRule (day .counts) (day .rows) summed) size
       (rows-within day plan summed f size (looks .few-slots) ls ws)))
 
-  -- and within what the walk sees at its starts, if its own place fits there
-  pub seen-within : (choice : ℕ) (sums fills domains : List ℕ) → choice < day .counts .choices
-      → ((slot : ℕ) → getD fills slot 0 ≡ sumIn (day .maxs) (take choice plan) slot) → length domains ≡ 64 → Within (day .counts .slots) plan domains
-      → placeFits (day .counts .slots) (day .counts .choosers) (day .mins) (day .optional) sums choice (slotOf plan choice) ≡ true
-      → Within (day .counts .slots) plan (seenAt (day .counts) (day .mins) (day .maxs) (day .optional) (day .rows) tables (take choice plan) choice sums fills domains)
-  unfolding seenAt openedAt openAt
-  seen-within choice sums fills domains h s l w fits =
-      let looked = lookedAhead (day .counts) (day .mins) (day .maxs) (day .rows) tables (take choice plan) choice domains in
-      let before = cond (nearEnd (day .counts .choices) choice) domains looked in
-      let at = placeNumber (day .counts .slots) (slotOf plan choice) in
-      let wb : Within (day .counts .slots) plan before = go (nearEnd (day .counts .choices) choice) in
-      let lb : length before ≡ 64 = before-length (day .counts) (day .mins) (day .maxs) (day .optional) (day .rows) tables (take choice plan) choice sums fills domains l in
-      let back : placeOf (day .counts .slots) at ≡ slotOf plan choice =
-      place-back (day .counts .slots) (slotOf plan choice) (looks .few-slots) (feasible-place day plan f choice (omega (arith, h, size))) in
-      rw (lt-ltb choice 64 (omega (arith, h, looks .few-choices)))
-      (set-within (day .counts .slots) plan before wb choice
-      (openPlaces (entryAt tables) (day .counts) (day .mins) (day .maxs) (day .optional) choice sums fills (getD before choice 0))
-      (omega (arith, h, looks .few-choices, lb)) λ k.
-      open-has (entryAt tables) (day .counts) (day .mins) (day .maxs) (day .optional) choice sums fills (getD before choice 0) (looks .few-slots) at
-      (number-le (day .counts .slots) (slotOf plan choice))
-      ∙ and-both (placeFits (day .counts .slots) (day .counts .choosers) (day .mins) (day .optional) sums choice (placeOf (day .counts .slots) at))
-      (has (enoughPlaces (entryAt tables) (day .counts) choice (getD (day .maxs) choice 0) fills (getD before choice 0)) at)
-      (ap (placeFits (day .counts .slots) (day .counts .choosers) (day .mins) (day .optional) sums choice) back ∙ fits)
-      (enough-keeps day plan tables f size (looks .filled) (looks .few-choices) (looks .few-choosers) choice fills (getD before choice 0) h s
-      (within-at (day .counts .slots) plan before wb choice (omega (arith, h, size)))))
+  -- and within what the walk sees at its starts
+  pub seen-within : (choice : ℕ) (domains : List ℕ) → choice < day .counts .choices → length domains ≡ 64 → Within (day .counts .slots) plan domains
+      → Within (day .counts .slots) plan (seenAt (day .counts) (day .mins) (day .maxs) (day .rows) tables (take choice plan) choice domains)
+  unfolding seenAt
+  seen-within choice domains h l w = go (nearEnd (day .counts .choices) choice)
     where
       go : (b : Bool) → Within (day .counts .slots) plan (cond b domains (lookedAhead (day .counts) (day .mins) (day .maxs) (day .rows) tables (take choice plan) choice domains))
       go true = w
       go false = looked-within choice domains (omega (arith, h)) l w
+
+  -- its own place is open there, if it fits and the decided rows leave it
+  pub opened-within : (choice : ℕ) (rows start sums fills : List ℕ) (domain : ℕ) → choice < day .counts .choices
+      → ((slot : ℕ) → getD fills slot 0 ≡ sumIn (day .maxs) (take choice plan) slot)
+      → has (rowsLeave (day .counts .slots) choice start rows domain) (placeNumber (day .counts .slots) (slotOf plan choice)) ≡ true
+      → placeFits (day .counts .slots) (day .counts .choosers) (day .mins) (day .optional) sums choice (slotOf plan choice) ≡ true
+      → has (openedAt (day .counts) (day .mins) (day .maxs) (day .optional) rows tables start choice sums fills domain) (placeNumber (day .counts .slots) (slotOf plan choice)) ≡ true
+  unfolding openedAt openAt
+  opened-within choice rows start sums fills domain h s r fits =
+      let at = placeNumber (day .counts .slots) (slotOf plan choice) in
+      let left = rowsLeave (day .counts .slots) choice start rows domain in
+      let back : placeOf (day .counts .slots) at ≡ slotOf plan choice =
+      place-back (day .counts .slots) (slotOf plan choice) (looks .few-slots) (feasible-place day plan f choice (omega (arith, h, size))) in
+      open-has (entryAt tables) (weightAt tables) (day .counts) (day .mins) (day .maxs) (day .optional) choice sums fills left (looks .few-slots) at
+      (number-le (day .counts .slots) (slotOf plan choice))
+      ∙ and-both (placeFits (day .counts .slots) (day .counts .choosers) (day .mins) (day .optional) sums choice (placeOf (day .counts .slots) at))
+      (has (enoughPlaces (entryAt tables) (weightAt tables) (day .counts) choice (getD (day .maxs) choice 0) fills left) at)
+      (ap (placeFits (day .counts .slots) (day .counts .choosers) (day .mins) (day .optional) sums choice) back ∙ fits)
+      (enough-keeps day plan tables f size (looks .filled) (looks .few-choices) (looks .few-choosers) choice fills left h s r)

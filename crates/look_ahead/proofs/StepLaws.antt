@@ -20,7 +20,8 @@ use Rattle.row_rules.specs.RowsRule.{rowsRule}
 use Rattle.table_rule.specs.Rule.{tablesRule}
 use Rattle.count_rule.specs.CountRule.{countsRule}
 use Rattle.open_places.specs.Open.{openPlaces}
-use Rattle.look_ahead.specs.Look.{decided, alive, aliveOr, weighed, lookedAhead, nearEnd, openedAt, seenAt}
+use Rattle.decided_rows.specs.Leaves.{rowsLeave}
+use Rattle.look_ahead.specs.Look.{decided, alive, aliveOr, weighed, lookedAhead, nearEnd, openedAt}
 
 -- ---- the last choice is decided
 
@@ -117,42 +118,24 @@ module _ (counts : Counts) (mins maxs rows tables plan : List ℕ) (choice : ℕ
 module _ (choices choice : ℕ) where
   pub none-left : choices ≤ choice → true ≡ nearEnd choices choice
   unfolding nearEnd
-  none-left h = sym (le-leb choices (choice + 7) (omega (arith, h)))
+  none-left h = sym (le-leb choices (choice + 8) (omega (arith, h)))
 
-  pub some-left : choice ≤ choices → leb (choices - choice) 7 ≡ nearEnd choices choice
+  pub some-left : choice ≤ choices → leb (choices - choice) 8 ≡ nearEnd choices choice
   unfolding nearEnd
-  some-left h = go (leb (choices - choice) 7) refl
+  some-left h = go (leb (choices - choice) 8) refl
     where
-      go : (b : Bool) → leb (choices - choice) 7 ≡ b → b ≡ leb choices (choice + 7)
-      go true t = sym (le-leb choices (choice + 7) (omega (arith, leb-true (choices - choice) 7 t, h)))
-      go false t = sym (lt-leb choices (choice + 7) (omega (arith, leb-false (choices - choice) 7 t, h)))
+      go : (b : Bool) → leb (choices - choice) 8 ≡ b → b ≡ leb choices (choice + 8)
+      go true t = sym (le-leb choices (choice + 8) (omega (arith, leb-true (choices - choice) 8 t, h)))
+      go false t = sym (lt-leb choices (choice + 8) (omega (arith, leb-false (choices - choice) 8 t, h)))
 
-module _ (counts : Counts) (mins maxs optional tables : List ℕ) (choice : ℕ) (sums fills domains : List ℕ) where
-  -- no choice past 63 has a domain
-  pub opened-past : 64 ≤ choice → domains ≡ openedAt counts mins maxs optional tables choice sums fills domains
-  unfolding openedAt
-  opened-past h = sym (rw (le-ltb choice 64 h))
-
-  pub opened-now : {left : ℕ} → choice < 64 → left ≡ openPlaces (entryAt tables) counts mins maxs optional choice sums fills (getD domains choice 0)
-      → set domains choice left ≡ openedAt counts mins maxs optional tables choice sums fills domains
-  unfolding openedAt
-  opened-now h k = ap (set domains choice) k ∙ sym (rw (lt-ltb choice 64 h))
-
-module _ (counts : Counts) (mins maxs optional rows tables plan : List ℕ) (choice : ℕ) (sums fills domains : List ℕ) {counts' : Counts} (e : counts' ≡ counts)
-    {b : Bool} (n : b ≡ nearEnd (counts' .choices) choice) where
-  near-is : nearEnd (counts .choices) choice ≡ b
-  near-is = ap (λ (k : Counts). nearEnd (k .choices) choice) (sym e) ∙ sym n
-
-  pub seen-near : {seen : List ℕ} → b ≡ true → seen ≡ openedAt counts' mins maxs optional tables choice sums fills domains
-      → seen ≡ seenAt counts mins maxs optional rows tables plan choice sums fills domains
-  unfolding seenAt
-  seen-near t s = s ∙ ap (λ (k : Counts). openedAt k mins maxs optional tables choice sums fills domains) e ∙ sym (rw (near-is ∙ t))
-
-  pub seen-far : {looked : List ℕ} {seen : List ℕ} → b ≡ false → looked ≡ lookedAhead counts mins maxs rows tables plan choice domains
-      → seen ≡ openedAt counts' mins maxs optional tables choice sums fills looked → seen ≡ seenAt counts mins maxs optional rows tables plan choice sums fills domains
-  unfolding seenAt
-  seen-far {looked} f l s =
-      s
-      ∙ ap (λ (k : Counts). openedAt k mins maxs optional tables choice sums fills looked) e
-      ∙ ap (openedAt counts mins maxs optional tables choice sums fills) l
-      ∙ sym (rw (near-is ∙ f))
+-- what is open, by counts that are known by now
+pub opened-by : (counts : Counts) (mins maxs optional rows tables plan : List ℕ) (choice : ℕ) (sums fills : List ℕ) (domain : ℕ) {counts' : Counts} {given left places : ℕ} → counts' ≡ counts
+    → given ≡ domain
+    → left ≡ rowsLeave (counts' .slots) choice plan rows given
+    → places ≡ openPlaces (entryAt tables) (weightAt tables) counts' mins maxs optional choice sums fills left
+    → places ≡ openedAt counts mins maxs optional rows tables plan choice sums fills domain
+unfolding openedAt
+opened-by counts mins maxs optional rows tables plan choice sums fills domain {counts'} e g l o =
+    o
+    ∙ ap (openPlaces (entryAt tables) (weightAt tables) counts' mins maxs optional choice sums fills) (l ∙ ap (rowsLeave (counts' .slots) choice plan rows) g)
+    ∙ ap (λ (k : Counts). openPlaces (entryAt tables) (weightAt tables) k mins maxs optional choice sums fills (rowsLeave (k .slots) choice plan rows domain)) e

@@ -2,7 +2,7 @@
 use mathlib.Core.Bool.{Bool, true, not, cond}
 use mathlib.Core.List.{List}
 use Prim.Native.Nat.{ℕ, zero, suc, _+_}
-use lib.Dec.{eqb, ltb, leb}
+use lib.Dec.{eqb, leb}
 use lib.ListN.{getD, set, replicate}
 use Rattle.lists.specs.Below.{allBelow}
 use Rattle.constraint.specs.declared.check.Counts.{Counts}
@@ -14,6 +14,7 @@ use Rattle.row_rules.specs.RowsRule.{rowsRule}
 use Rattle.table_rule.specs.Rule.{tablesRule}
 use Rattle.count_rule.specs.CountRule.{countsRule}
 use Rattle.open_places.specs.Open.{openPlaces}
+use Rattle.decided_rows.specs.Leaves.{rowsLeave}
 
 -- the domains once the last of so many choices stands at its place
 unfoldable pub decided : ℕ → List ℕ → ℕ → List ℕ → List ℕ
@@ -40,17 +41,16 @@ lookedAhead counts mins maxs rows tables plan choice domains =
     (aliveOr (counts .choices) (rowsRule counts rows (slotsRule counts mins maxs (weighed counts maxs rows tables plan choice domains))))
     (replicate 64 0)
 
--- with seven choices left or fewer the walk looks ahead no more
+-- with eight choices left or fewer the walk looks ahead no more
 unfoldable pub nearEnd : ℕ → ℕ → Bool
-nearEnd choices choice = leb choices (choice + 7)
+nearEnd choices choice = leb choices (choice + 8)
 
--- the next choice's domain is the set of the places that are open to it; no choice past 63 has any
-unfoldable pub openedAt : Counts → List ℕ → List ℕ → List ℕ → List ℕ → ℕ → List ℕ → List ℕ → List ℕ → List ℕ
-openedAt counts mins maxs optional tables choice sums fills domains =
-    cond (ltb choice 64) (set domains choice (openPlaces (entryAt tables) counts mins maxs optional choice sums fills (getD domains choice 0))) domains
+-- the domains as the walk sees them at a start
+unfoldable pub seenAt : Counts → List ℕ → List ℕ → List ℕ → List ℕ → List ℕ → ℕ → List ℕ → List ℕ
+seenAt counts mins maxs rows tables plan choice domains =
+    cond (nearEnd (counts .choices) choice) domains (lookedAhead counts mins maxs rows tables plan choice domains)
 
--- the domains as the walk sees them at a start, with each slot's sum of minimums and of maximums so far
-unfoldable pub seenAt : Counts → List ℕ → List ℕ → List ℕ → List ℕ → List ℕ → List ℕ → ℕ → List ℕ → List ℕ → List ℕ → List ℕ
-seenAt counts mins maxs optional rows tables plan choice sums fills domains =
-    openedAt counts mins maxs optional tables choice sums fills
-    (cond (nearEnd (counts .choices) choice) domains (lookedAhead counts mins maxs rows tables plan choice domains))
+-- the places that are open to the next choice: the rows that are decided with it leave them of its domain, and so do its minimum and the choices after it, with each slot's sum of minimums and of maximums so far
+unfoldable pub openedAt : Counts → List ℕ → List ℕ → List ℕ → List ℕ → List ℕ → List ℕ → ℕ → List ℕ → List ℕ → ℕ → ℕ
+openedAt counts mins maxs optional rows tables plan choice sums fills domain =
+    openPlaces (entryAt tables) (weightAt tables) counts mins maxs optional choice sums fills (rowsLeave (counts .slots) choice plan rows domain)

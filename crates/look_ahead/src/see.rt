@@ -1,54 +1,34 @@
-// What the walk sees at a start: the domains after a look ahead, and for the next choice the places that are open to it.
-use super::look::look_ahead;
-use constraint::check::Counts;
+// What the walk sees at a start: whether it looks ahead, and the places that are open to the next choice.
+use decided_rows::leaves::rows_leave;
 use listing_starts::full::counts_of;
 use open_places::open::open_places;
 ghost use mathlib.Core.Path.{_≡_};
+ghost use lib.ListN.{getD, take};
 ghost use Rattle.listing_nodes.specs.steps.Walk.{countsOf};
-ghost use Rattle.look_ahead.specs.Look.{nearEnd, openedAt, seenAt};
+ghost use Rattle.look_ahead.specs.Look.{nearEnd, openedAt};
 
-// With seven choices left or fewer the walk looks ahead no more.
-fn near_end(choices: usize, choice: usize) -> bool
+// With eight choices left or fewer the walk looks ahead no more.
+pub fn near_end(choices: usize, choice: usize) -> bool
     ensures { λ r. ⌜ r ≡ nearEnd choices choice ⌝ }
 {
     if choices <= choice {
         return true;
     }
-    choices - choice <= 7
+    choices - choice <= 8
 }
 
-// Of the next choice's places those stay that are open to it.
-fn keep_next(
-    counts: Counts,
-    mins: &[u16],
-    maxs: &[u16],
-    optional: &[u8],
-    tables: &[u16; 52_516],
-    choice: usize,
-    sums: &[usize; 24],
-    fills: &[usize; 24],
-    domains: &mut [u64; 64],
-)
-    ensures { λ _. ⌜ now (domains .exit) ≡ openedAt counts (now (mins .entry)) (now (maxs .entry)) (now (optional .entry)) (now (tables .entry)) choice (now (sums .entry)) (now (fills .entry)) (now (domains .entry)) ⌝ }
+// A choice's domain, no place of one past the list.
+fn domain_of(domains: &[u64], choice: usize) -> u64
+    ensures { λ r. ⌜ r ≡ getD (now (domains .entry)) choice 0 ⌝ }
 {
-    if 64 <= choice {
-        return;
+    if domains.len() <= choice {
+        return 0;
     }
-    domains[choice] = open_places(
-        counts,
-        mins,
-        maxs,
-        optional,
-        tables,
-        choice,
-        sums,
-        fills,
-        domains[choice],
-    );
+    domains[choice]
 }
 
-// The domains at a start, as the walk goes on with them.
-pub fn see(
+// The places that are open to the next choice: the first so many rows leave them, and its sums do.
+pub fn open_to(
     asked: &[usize; 6],
     mins: &[u16],
     maxs: &[u16],
@@ -56,30 +36,24 @@ pub fn see(
     rows: &[u64],
     tables: &[u16; 52_516],
     choice: usize,
+    front: usize,
     plan: &mut [u8],
     sums: &[usize; 24],
     fills: &[usize; 24],
-    domains: &mut [u64; 64],
-)
-    ensures { λ _. ⌜ (now (domains .exit) ≡ seenAt (countsOf (now (asked .entry))) (now (mins .entry)) (now (maxs .entry)) (now (optional .entry)) (now (rows .entry)) (now (tables .entry)) (now (plan .entry)) choice (now (sums .entry)) (now (fills .entry)) (now (domains .entry))) × (now (plan .exit) ≡ now (plan .entry)) ⌝ }
+    domains: &[u64; 64],
+) -> u64
+    ensures { λ r. ⌜ (r ≡ openedAt (countsOf (now (asked .entry))) (now (mins .entry)) (now (maxs .entry)) (now (optional .entry)) (take front (now (rows .entry))) (now (tables .entry)) (now (plan .entry)) choice (now (sums .entry)) (now (fills .entry)) (getD (now (domains .entry)) choice 0)) × (now (plan .exit) ≡ now (plan .entry)) ⌝ }
 {
     let counts = counts_of(asked);
-    if near_end(counts.choices, choice) {
-        keep_next(
-            counts,
-            mins,
-            maxs,
-            optional,
-            tables,
-            choice,
-            sums,
-            fills,
-            domains,
-        );
-        return;
-    }
-    *domains = look_ahead(asked, mins, maxs, rows, tables, choice, plan, domains);
-    keep_next(
+    let left = rows_leave(
+        counts.slots,
+        choice,
+        plan,
+        rows,
+        front,
+        domain_of(domains, choice),
+    );
+    open_places(
         counts,
         mins,
         maxs,
@@ -88,6 +62,6 @@ pub fn see(
         choice,
         sums,
         fills,
-        domains,
-    );
+        left,
+    )
 }

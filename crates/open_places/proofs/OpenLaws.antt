@@ -15,17 +15,17 @@ use Rattle.listing_nodes.specs.steps.Walk.{placeOf, placeFits}
 use Rattle.table_rule.specs.Enough.{enoughPlaces}
 use Rattle.open_places.specs.Open.{openAt, openPlaces}
 
-module _ (entry : ℕ → ℕ → ℕ → ℕ) (counts : Counts) (mins maxs optional : List ℕ) (choice : ℕ) (sums fills : List ℕ) (domain : ℕ) (few : counts .slots ≤ 24) where
+module _ (entry : ℕ → ℕ → ℕ → ℕ) (weight : ℕ → ℕ → ℕ) (counts : Counts) (mins maxs optional : List ℕ) (choice : ℕ) (sums fills : List ℕ) (domain : ℕ) (few : counts .slots ≤ 24) where
   -- the set has what is open
   pub open-has : (at : ℕ) → at ≤ counts .slots
-      → has (openPlaces entry counts mins maxs optional choice sums fills domain) at ≡ openAt entry counts mins maxs optional choice sums fills domain at
+      → has (openPlaces entry weight counts mins maxs optional choice sums fills domain) at ≡ openAt entry weight counts mins maxs optional choice sums fills domain at
   unfolding openPlaces
-  open-has at h = rw (le-leb _ _ few) (has-set (counts .slots + 1) (openAt entry counts mins maxs optional choice sums fills domain) at (omega arith))
+  open-has at h = rw (le-leb _ _ few) (has-set (counts .slots + 1) (openAt entry weight counts mins maxs optional choice sums fills domain) at (omega arith))
 
   -- what is open fits
-  pub open-fits : (at : ℕ) → at ≤ counts .slots → has (openPlaces entry counts mins maxs optional choice sums fills domain) at ≡ true
+  pub open-fits : (at : ℕ) → at ≤ counts .slots → has (openPlaces entry weight counts mins maxs optional choice sums fills domain) at ≡ true
       → placeFits (counts .slots) (counts .choosers) mins optional sums choice (placeOf (counts .slots) at) ≡ true
   unfolding openAt
   open-fits at h t =
       and-left (placeFits (counts .slots) (counts .choosers) mins optional sums choice (placeOf (counts .slots) at))
-      (has (enoughPlaces entry counts choice (getD maxs choice 0) fills domain) at) (sym (open-has at h) ∙ t)
+      (has (enoughPlaces entry weight counts choice (getD maxs choice 0) fills domain) at) (sym (open-has at h) ∙ t)

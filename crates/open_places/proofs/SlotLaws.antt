@@ -2,7 +2,7 @@
 use mathlib.Core.Path.{_≡_, refl, sym, ap, _∙_}
 use mathlib.Core.Bool.{Bool, true, false, _&&_, cond}
 use mathlib.Core.List.{List}
-use Prim.Native.Nat.{ℕ, _+_, _-_, _*_, _≤_, _<_}
+use Prim.Native.Nat.{ℕ, suc, _+_, _-_, _*_, _≤_, _<_}
 use native.Mathlib.Decide.{ℕ-discrete}
 use native.Mathlib.Nat.{zero-add}
 use native.Mathlib.Omega.{arith}
@@ -15,10 +15,11 @@ use Rattle.choice_sets.specs.Sets.{has, setOf, withChoice}
 use Rattle.choice_sets.proofs.SetLaws.{has-set, has-set-past, set-ext, set-skip, set-wider, set-none}
 use Rattle.listing_nodes.specs.steps.Walk.{placeOf, placeFits}
 use Rattle.listing_nodes.proofs.PlaceLaws.{may-stand, may-omit}
+use Rattle.weight_tables.specs.Weights.{sumFrom}
 use Rattle.weight_tables.specs.Tables.{entryAt}
 use Rattle.weight_tables.proofs.TableLaws.{entry-in}
 use Rattle.table_rule.specs.Rule.{needOf, slotKept}
-use Rattle.table_rule.specs.Enough.{lacksAt, enoughWith, enoughAsked, enoughPlaces}
+use Rattle.table_rule.specs.Enough.{lacksAt, weightAfter, enoughWith, enoughAsked, enoughPlaces}
 use Rattle.table_rule.proofs.FigureLaws.{set-step}
 use Rattle.table_rule.proofs.RuleLaws.{need-step}
 use Rattle.table_rule.proofs.EnoughPlaces.{lack-at}
@@ -29,11 +30,26 @@ use Rattle.open_places.specs.Open.{openAt, openPlaces}
 pub past-none : (list : List ℕ) (i : ℕ) → length list ≤ i → 0 ≡ getD list i 0
 past-none list i h = sym (List·getD-eq-default list 0 h)
 
--- an entry of table 0
-pub first-entry : (tables : List ℕ) (from lack : ℕ) → from ≤ 64 → lack ≤ 200 → getD tables (from * 201 + lack) 0 ≡ entryAt tables 0 from lack
-first-entry tables from lack f l =
-    let e : from * 201 + lack ≡ (0 * 65 + from) * 201 + lack = omega arith in
-    ap (λ (x : ℕ). getD tables x 0) e ∙ entry-in tables 0 from lack (omega arith) (omega arith) (omega arith)
+-- an entry of table 1
+pub heads-entry : (tables : List ℕ) (from lack : ℕ) → from ≤ 64 → lack ≤ 200 → getD tables ((65 + from) * 201 + lack) 0 ≡ entryAt tables 1 from lack
+heads-entry tables from lack f l = entry-in tables 1 from lack (omega arith) (omega arith) (omega arith)
+
+-- what the choices from one on weigh: one more of them, and no more
+pub after-step : (weight : ℕ → ℕ → ℕ) (choices choice spare part whole : ℕ) → choice < choices → part ≡ weight 1 choice
+    → spare + weightAfter weight choices choice ≡ whole → spare + part + weightAfter weight choices (choice + 1) ≡ whole
+unfolding weightAfter sumFrom
+after-step weight choices choice spare part whole h p e =
+    let k : choices - choice ≡ suc (choices - (choice + 1)) = omega arith in
+    let s : suc choice ≡ choice + 1 = omega arith in
+    let f = rw (k, s) at e in
+    omega (arith, f, p)
+
+pub after-end : (weight : ℕ → ℕ → ℕ) (choices choice spare whole : ℕ) → choices ≤ choice → spare + weightAfter weight choices choice ≡ whole → spare ≡ whole
+unfolding weightAfter sumFrom
+after-end weight choices choice spare whole h e =
+    let k : choices - choice ≡ 0 = omega arith in
+    let f = rw k at e in
+    omega (arith, f)
 
 -- whether the tables hold the day
 module _ (counts : Counts) (choice : ℕ) where
@@ -62,11 +78,11 @@ module _ (counts : Counts) (choice : ℕ) where
 
 -- the need, one slot more
 pub need-more : (entry : ℕ → ℕ → ℕ → ℕ) (slots choosers from : ℕ) (fills : List ℕ) (slot need lack part : ℕ) → slots ≤ 24 → slot < slots
-    → need ≡ needOf entry slot 0 from (lacksAt choosers slots fills) → lack ≡ choosers - getD fills slot 0 → part ≡ entry 0 from lack
-    → need + part ≡ needOf entry (slot + 1) 0 from (lacksAt choosers slots fills)
+    → need ≡ needOf entry slot 1 from (lacksAt choosers slots fills) → lack ≡ choosers - getD fills slot 0 → part ≡ entry 1 from lack
+    → need + part ≡ needOf entry (slot + 1) 1 from (lacksAt choosers slots fills)
 need-more entry slots choosers from fills slot need lack part few hs n l p =
-    need-step entry 0 from (lacksAt choosers slots fills) slot need part n
-    (p ∙ ap (λ (x : ℕ). entry 0 from x) (l ∙ sym (lack-at choosers slots fills few slot hs)))
+    need-step entry 1 from (lacksAt choosers slots fills) slot need part n
+    (p ∙ ap (λ (x : ℕ). entry 1 from x) (l ∙ sym (lack-at choosers slots fills few slot hs)))
 
 -- a test that fails with its second part
 and-none : (a : Bool) → (a && false) ≡ false
@@ -146,7 +162,7 @@ module _ (choosers least : ℕ) (sums : List ℕ) (domain : ℕ) where
 
 -- whether a slot is open where the choice is needed
 module _ (entry : ℕ → ℕ → ℕ → ℕ) (choosers from : ℕ) (fills : List ℕ) (most need spare : ℕ) where
-  pub leaves-by : (slot lack less rest whole : ℕ) → lack ≡ choosers - getD fills slot 0 → less ≡ lack - most → rest ≡ entry 0 from less → whole ≡ entry 0 from lack
+  pub leaves-by : (slot lack less rest whole : ℕ) → lack ≡ choosers - getD fills slot 0 → less ≡ lack - most → rest ≡ entry 1 from less → whole ≡ entry 1 from lack
       → leb (rest + need) (spare + whole) ≡ leavesEnough entry choosers from fills most need spare slot
   unfolding leavesEnough
   leaves-by slot lack less rest whole k l r w = rw (r, w, l, k)
@@ -158,7 +174,7 @@ module _ (entry : ℕ → ℕ → ℕ → ℕ) (choosers from : ℕ) (fills : Li
     open-filled slot t h =
         let z : choosers - getD fills slot 0 ≡ 0 = omega arith in
         let y : 0 - most ≡ 0 = omega arith in
-        sym (rw (z, y, lt-leb (entry 0 from 0 + need) (spare + entry 0 from 0) (omega arith)) (and-none (slotFits choosers least sums domain slot)))
+        sym (rw (z, y, lt-leb (entry 1 from 0 + need) (spare + entry 1 from 0) (omega arith)) (and-none (slotFits choosers least sums domain slot)))
 
     pub open-full : (slot : ℕ) {fits : Bool} → fits ≡ slotFits choosers least sums domain slot → fits ≡ false
         → false ≡ slotOpen entry choosers from fills least sums most need spare domain slot
@@ -179,38 +195,38 @@ module _ (entry : ℕ → ℕ → ℕ → ℕ) (choosers from : ℕ) (fills : Li
     -- the slots that are open are the places that fit of those that leave enough
     open-slot : (slots : ℕ) → slots ≤ 24 → (flag slot : ℕ) → slot < slots
         → slotOpen entry choosers from fills least sums most need spare domain slot
-        ≡ fitsAt slots choosers least flag sums (setOf slots (slotKept entry 0 from (lacksAt choosers slots fills) 0 most need spare domain)) slot
+        ≡ fitsAt slots choosers least flag sums (setOf slots (slotKept entry 1 from (lacksAt choosers slots fills) 0 most need spare domain)) slot
     unfolding slotOpen slotFits leavesEnough fitsAt slotKept
     open-slot slots few flag slot h =
-        rw (lt-ltb slot slots h, has-set slots (slotKept entry 0 from (lacksAt choosers slots fills) 0 most need spare domain) slot h, lack-at choosers slots fills few slot h, zero-add (entry 0 from (choosers - getD fills slot 0 - most)))
+        rw (lt-ltb slot slots h, has-set slots (slotKept entry 1 from (lacksAt choosers slots fills) 0 most need spare domain) slot h, lack-at choosers slots fills few slot h, zero-add (entry 1 from (choosers - getD fills slot 0 - most)))
         (and-last (leb (getD sums slot 0 + least) choosers) (has domain slot) _)
 
-    open-omission : (slots flag : ℕ) → fitsAt slots choosers least flag sums (setOf slots (slotKept entry 0 from (lacksAt choosers slots fills) 0 most need spare domain)) slots ≡ false
+    open-omission : (slots flag : ℕ) → fitsAt slots choosers least flag sums (setOf slots (slotKept entry 1 from (lacksAt choosers slots fills) 0 most need spare domain)) slots ≡ false
     unfolding fitsAt
     open-omission slots flag =
         ap (λ (b : Bool). cond (ltb slots slots) (leb (getD sums slots 0 + least) choosers) (eqb flag 1) && b)
-        (has-set-past slots (slotKept entry 0 from (lacksAt choosers slots fills) 0 most need spare domain) slots (omega arith))
+        (has-set-past slots (slotKept entry 1 from (lacksAt choosers slots fills) 0 most need spare domain) slots (omega arith))
         ∙ and-none (cond (ltb slots slots) (leb (getD sums slots 0 + least) choosers) (eqb flag 1))
 
-    pub open-tight : (slots flag result : ℕ) → slots ≤ 24 → need ≡ needOf entry slots 0 from (lacksAt choosers slots fills) → spare < need
+    pub open-tight : (slots flag result : ℕ) → slots ≤ 24 → need ≡ needOf entry slots 1 from (lacksAt choosers slots fills) → spare < need
         → result ≡ setOf slots (slotOpen entry choosers from fills least sums most need spare domain)
         → result ≡ fitting slots choosers least flag sums (enoughWith entry slots from (lacksAt choosers slots fills) most spare domain)
     unfolding fitting enoughWith
     open-tight slots flag result few n h r =
-        let q : ℕ → Bool = fitsAt slots choosers least flag sums (setOf slots (slotKept entry 0 from (lacksAt choosers slots fills) 0 most need spare domain)) in
+        let q : ℕ → Bool = fitsAt slots choosers least flag sums (setOf slots (slotKept entry 1 from (lacksAt choosers slots fills) 0 most need spare domain)) in
         rw (sym n, lt-leb _ _ h)
         (r ∙ set-ext slots (slotOpen entry choosers from fills least sums most need spare domain) q (open-slot slots few flag)
         ∙ sym (set-skip slots q (open-omission slots flag)))
 
-    pub open-loose : (slots flag result : ℕ) → need ≡ needOf entry slots 0 from (lacksAt choosers slots fills) → need ≤ spare
+    pub open-loose : (slots flag result : ℕ) → need ≡ needOf entry slots 1 from (lacksAt choosers slots fills) → need ≤ spare
         → result ≡ fitting slots choosers least flag sums domain
         → result ≡ fitting slots choosers least flag sums (enoughWith entry slots from (lacksAt choosers slots fills) most spare domain)
     unfolding enoughWith
     open-loose slots flag result n h r = rw (sym n, le-leb _ _ h) r
 
 -- the call
-module _ (entry : ℕ → ℕ → ℕ → ℕ) (counts : Counts) (mins maxs optional : List ℕ) (choice : ℕ) (sums fills : List ℕ) (domain : ℕ) where
-  pub open-many : 24 < counts .slots → 0 ≡ openPlaces entry counts mins maxs optional choice sums fills domain
+module _ (entry : ℕ → ℕ → ℕ → ℕ) (weight : ℕ → ℕ → ℕ) (counts : Counts) (mins maxs optional : List ℕ) (choice : ℕ) (sums fills : List ℕ) (domain : ℕ) where
+  pub open-many : 24 < counts .slots → 0 ≡ openPlaces entry weight counts mins maxs optional choice sums fills domain
   unfolding openPlaces
   open-many h = rw (lt-leb _ _ h)
 
@@ -233,29 +249,31 @@ module _ (entry : ℕ → ℕ → ℕ → ℕ) (counts : Counts) (mins maxs opti
             ∙ may-stand (counts .slots) (counts .choosers) mins optional sums choice at (omega (arith, n)) l
 
     -- the open places are those that fit of those that leave enough
-    open-fit : fitting (counts .slots) (counts .choosers) least flag sums (enoughPlaces entry counts choice (getD maxs choice 0) fills domain)
-        ≡ openPlaces entry counts mins maxs optional choice sums fills domain
+    open-fit : fitting (counts .slots) (counts .choosers) least flag sums (enoughPlaces entry weight counts choice (getD maxs choice 0) fills domain)
+        ≡ openPlaces entry weight counts mins maxs optional choice sums fills domain
     unfolding openPlaces fitting openAt
     open-fit =
         rw (le-leb _ _ few)
-        (set-ext (counts .slots + 1) (fitsAt (counts .slots) (counts .choosers) least flag sums (enoughPlaces entry counts choice (getD maxs choice 0) fills domain))
-        (openAt entry counts mins maxs optional choice sums fills domain) (place-fits (enoughPlaces entry counts choice (getD maxs choice 0) fills domain)))
+        (set-ext (counts .slots + 1) (fitsAt (counts .slots) (counts .choosers) least flag sums (enoughPlaces entry weight counts choice (getD maxs choice 0) fills domain))
+        (openAt entry weight counts mins maxs optional choice sums fills domain) (place-fits (enoughPlaces entry weight counts choice (getD maxs choice 0) fills domain)))
 
     pub open-unasked : {asked : Bool} (result : ℕ) → asked ≡ enoughAsked counts choice → asked ≡ false
-        → result ≡ fitting (counts .slots) (counts .choosers) least flag sums domain → result ≡ openPlaces entry counts mins maxs optional choice sums fills domain
+        → result ≡ fitting (counts .slots) (counts .choosers) least flag sums domain → result ≡ openPlaces entry weight counts mins maxs optional choice sums fills domain
     unfolding enoughPlaces
     open-unasked result a t r =
         r
-        ∙ ap (λ (b : Bool). fitting (counts .slots) (counts .choosers) least flag sums (cond b (enoughWith entry (counts .slots) (choice + 1) (lacksAt (counts .choosers) (counts .slots) fills) (getD maxs choice 0) (counts .choices - (choice + 1)) domain) domain)) (sym (sym a ∙ t))
+        ∙ ap (λ (b : Bool). fitting (counts .slots) (counts .choosers) least flag sums (cond b (enoughWith entry (counts .slots) (choice + 1) (lacksAt (counts .choosers) (counts .slots) fills) (getD maxs choice 0) (weightAfter weight (counts .choices) (choice + 1)) domain) domain)) (sym (sym a ∙ t))
         ∙ open-fit
 
-    pub open-asked : {asked : Bool} (most result : ℕ) → asked ≡ enoughAsked counts choice → asked ≡ true → most ≡ getD maxs choice 0
+    pub open-asked : {asked : Bool} (most spare result : ℕ) → asked ≡ enoughAsked counts choice → asked ≡ true → most ≡ getD maxs choice 0
+        → spare ≡ weightAfter weight (counts .choices) (choice + 1)
         → result
-        ≡ fitting (counts .slots) (counts .choosers) least flag sums (enoughWith entry (counts .slots) (choice + 1) (lacksAt (counts .choosers) (counts .slots) fills) most (counts .choices - (choice + 1)) domain)
-        → result ≡ openPlaces entry counts mins maxs optional choice sums fills domain
+        ≡ fitting (counts .slots) (counts .choosers) least flag sums (enoughWith entry (counts .slots) (choice + 1) (lacksAt (counts .choosers) (counts .slots) fills) most spare domain)
+        → result ≡ openPlaces entry weight counts mins maxs optional choice sums fills domain
     unfolding enoughPlaces
-    open-asked most result a t m r =
+    open-asked most spare result a t m p r =
         r
-        ∙ ap (λ (x : ℕ). fitting (counts .slots) (counts .choosers) least flag sums (enoughWith entry (counts .slots) (choice + 1) (lacksAt (counts .choosers) (counts .slots) fills) x (counts .choices - (choice + 1)) domain)) m
-        ∙ ap (λ (b : Bool). fitting (counts .slots) (counts .choosers) least flag sums (cond b (enoughWith entry (counts .slots) (choice + 1) (lacksAt (counts .choosers) (counts .slots) fills) (getD maxs choice 0) (counts .choices - (choice + 1)) domain) domain)) (sym (sym a ∙ t))
+        ∙ ap (λ (x : ℕ). fitting (counts .slots) (counts .choosers) least flag sums (enoughWith entry (counts .slots) (choice + 1) (lacksAt (counts .choosers) (counts .slots) fills) x spare domain)) m
+        ∙ ap (λ (x : ℕ). fitting (counts .slots) (counts .choosers) least flag sums (enoughWith entry (counts .slots) (choice + 1) (lacksAt (counts .choosers) (counts .slots) fills) (getD maxs choice 0) x domain)) p
+        ∙ ap (λ (b : Bool). fitting (counts .slots) (counts .choosers) least flag sums (cond b (enoughWith entry (counts .slots) (choice + 1) (lacksAt (counts .choosers) (counts .slots) fills) (getD maxs choice 0) (weightAfter weight (counts .choices) (choice + 1)) domain) domain)) (sym (sym a ∙ t))
         ∙ open-fit

@@ -10,12 +10,12 @@ use Rattle.listing_nodes.specs.steps.Walk.{placeOf, placeFits}
 use Rattle.table_rule.specs.Enough.{enoughPlaces}
 
 -- whether a place, by its number in a domain, is open to the choice
-unfoldable pub openAt : (ℕ → ℕ → ℕ → ℕ) → Counts → List ℕ → List ℕ → List ℕ → ℕ → List ℕ → List ℕ → ℕ → ℕ → Bool
-openAt entry counts mins maxs optional choice sums fills domain at =
+unfoldable pub openAt : (ℕ → ℕ → ℕ → ℕ) → (ℕ → ℕ → ℕ) → Counts → List ℕ → List ℕ → List ℕ → ℕ → List ℕ → List ℕ → ℕ → ℕ → Bool
+openAt entry weight counts mins maxs optional choice sums fills domain at =
     placeFits (counts .slots) (counts .choosers) mins optional sums choice (placeOf (counts .slots) at)
-    && has (enoughPlaces entry counts choice (getD maxs choice 0) fills domain) at
+    && has (enoughPlaces entry weight counts choice (getD maxs choice 0) fills domain) at
 
 -- the places that are open to it; with more slots than a day has none is
-unfoldable pub openPlaces : (ℕ → ℕ → ℕ → ℕ) → Counts → List ℕ → List ℕ → List ℕ → ℕ → List ℕ → List ℕ → ℕ → ℕ
-openPlaces entry counts mins maxs optional choice sums fills domain =
-    cond (leb (counts .slots) 24) (setOf (counts .slots + 1) (openAt entry counts mins maxs optional choice sums fills domain)) 0
+unfoldable pub openPlaces : (ℕ → ℕ → ℕ → ℕ) → (ℕ → ℕ → ℕ) → Counts → List ℕ → List ℕ → List ℕ → ℕ → List ℕ → List ℕ → ℕ → ℕ
+openPlaces entry weight counts mins maxs optional choice sums fills domain =
+    cond (leb (counts .slots) 24) (setOf (counts .slots + 1) (openAt entry weight counts mins maxs optional choice sums fills domain)) 0

@@ -7,9 +7,9 @@ ghost use mathlib.Core.Bool.{cond};
 ghost use Prim.Native.Nat.{_≤_, _<_};
 ghost use lib.ListN.{getD};
 ghost use Rattle.choice_sets.specs.Sets.{has, setOf, withChoice};
-ghost use Rattle.weight_tables.specs.Tables.{entryAt};
+ghost use Rattle.weight_tables.specs.Tables.{entryAt, weightAt};
 ghost use Rattle.table_rule.specs.Rule.{needOf};
-ghost use Rattle.table_rule.specs.Enough.{lacksAt, enoughWith, enoughAsked};
+ghost use Rattle.table_rule.specs.Enough.{lacksAt, weightAfter, enoughWith, enoughAsked};
 ghost use Rattle.open_places.specs.steps.Slots.{slotFits, slotOpen, leavesEnough, fitting};
 ghost use Rattle.open_places.specs.Open.{openPlaces};
 
@@ -47,15 +47,37 @@ fn is_asked(counts: Counts, choice: usize) -> bool
     choice < counts.choices
 }
 
-// How few of the choices from one on fill a lack, by table 0.
-fn fewest(tables: &[u16; 52516], from: usize, lack: usize) -> usize
+// What those of the choices from one on weigh that fill a lack, at the least, by table 1.
+fn lightest(tables: &[u16; 52516], from: usize, lack: usize) -> usize
     requires { ⌜ (from ≤ 64) × (lack ≤ 200) ⌝ }
-    ensures { λ r. ⌜ (r ≡ entryAt (now (tables .entry)) 0 from lack) × (r ≤ 65535) ⌝ }
+    ensures { λ r. ⌜ (r ≡ entryAt (now (tables .entry)) 1 from lack) × (r ≤ 65535) ⌝ }
 {
-    wide_word(tables[from * 201 + lack])
+    wide_word(tables[(65 + from) * 201 + lack])
 }
 
-// How many choices the slots' lacks take together, at the fewest.
+// A choice's weight in table 1.
+fn weight_of(tables: &[u16; 52516], choice: usize) -> usize
+    requires { ⌜ choice < 64 ⌝ }
+    ensures { λ r. ⌜ (r ≡ weightAt (now (tables .entry)) 1 choice) × (r ≤ 65535) ⌝ }
+{
+    wide_word(tables[52324 + choice])
+}
+
+// What the choices from one on weigh together in table 1.
+fn weight_after(tables: &[u16; 52516], choices: usize, from: usize) -> usize
+    requires { ⌜ (choices ≤ 64) × (from ≤ choices) ⌝ }
+    ensures { λ r. ⌜ (r ≡ weightAfter (weightAt (now (tables .entry))) choices from) × (r ≤ 4194240) ⌝ }
+{
+    let mut spare = 0;
+    let mut choice = from;
+    while choice < choices {
+        spare += weight_of(tables, choice);
+        choice += 1;
+    }
+    spare
+}
+
+// What the slots' lacks weigh together, at the least.
 fn need_by_fills(
     slots: usize,
     choosers: usize,
@@ -64,12 +86,12 @@ fn need_by_fills(
     tables: &[u16; 52516],
 ) -> usize
     requires { ⌜ (slots ≤ 24) × ((choosers ≤ 200) × (from ≤ 64)) ⌝ }
-    ensures { λ r. ⌜ (r ≡ needOf (entryAt (now (tables .entry))) slots 0 from (lacksAt choosers slots (now (fills .entry)))) × (r ≤ 1572840) ⌝ }
+    ensures { λ r. ⌜ (r ≡ needOf (entryAt (now (tables .entry))) slots 1 from (lacksAt choosers slots (now (fills .entry)))) × (r ≤ 1572840) ⌝ }
 {
     let mut need = 0;
     let mut slot = 0;
     while slot < slots {
-        need += fewest(tables, from, less(choosers, fills[slot]));
+        need += lightest(tables, from, less(choosers, fills[slot]));
         slot += 1;
     }
     need
@@ -159,12 +181,12 @@ fn leaves_enough(
     spare: usize,
     slot: usize,
 ) -> bool
-    requires { ⌜ ((slot < 24) × ((choosers ≤ 200) × (from ≤ 64))) × ((need ≤ 1572840) × (spare ≤ 64)) ⌝ }
+    requires { ⌜ ((slot < 24) × ((choosers ≤ 200) × (from ≤ 64))) × ((need ≤ 1572840) × (spare ≤ 4194240)) ⌝ }
     ensures { λ r. ⌜ r ≡ leavesEnough (entryAt (now (tables .entry))) choosers from (now (fills .entry)) most need spare slot ⌝ }
 {
     let lack = less(choosers, fills[slot]);
-    let rest = fewest(tables, from, less(lack, most));
-    let whole = fewest(tables, from, lack);
+    let rest = lightest(tables, from, less(lack, most));
+    let whole = lightest(tables, from, lack);
     rest + need <= spare + whole
 }
 
@@ -182,7 +204,7 @@ fn slot_open(
     domain: u64,
     slot: usize,
 ) -> bool
-    requires { ⌜ (((slot < 24) × ((choosers ≤ 200) × (from ≤ 64))) × ((need ≤ 1572840) × (spare ≤ 64))) × ((least ≤ choosers) × (spare < need)) ⌝ }
+    requires { ⌜ (((slot < 24) × ((choosers ≤ 200) × (from ≤ 64))) × ((need ≤ 1572840) × (spare ≤ 4194240))) × ((least ≤ choosers) × (spare < need)) ⌝ }
     ensures { λ r. ⌜ r ≡ slotOpen (entryAt (now (tables .entry))) choosers from (now (fills .entry)) least (now (sums .entry)) most need spare domain slot ⌝ }
 {
     if choosers <= fills[slot] {
@@ -208,7 +230,7 @@ fn open_slots(
     spare: usize,
     domain: u64,
 ) -> u64
-    requires { ⌜ (((slots ≤ 24) × ((choosers ≤ 200) × (from ≤ 64))) × ((need ≤ 1572840) × (spare ≤ 64))) × (spare < need) ⌝ }
+    requires { ⌜ (((slots ≤ 24) × ((choosers ≤ 200) × (from ≤ 64))) × ((need ≤ 1572840) × (spare ≤ 4194240))) × (spare < need) ⌝ }
     ensures { λ r. ⌜ r ≡ setOf slots (slotOpen (entryAt (now (tables .entry))) choosers from (now (fills .entry)) least (now (sums .entry)) most need spare domain) ⌝ }
 {
     if choosers < least {
@@ -250,7 +272,7 @@ fn places_left(
     sums: &[usize; 24],
     domain: u64,
 ) -> u64
-    requires { ⌜ ((slots ≤ 24) × ((choosers ≤ 200) × (from ≤ 64))) × (spare ≤ 64) ⌝ }
+    requires { ⌜ ((slots ≤ 24) × ((choosers ≤ 200) × (from ≤ 64))) × (spare ≤ 4194240) ⌝ }
     ensures { λ r. ⌜ r ≡ fitting slots choosers least flag (now (sums .entry)) (enoughWith (entryAt (now (tables .entry))) slots from (lacksAt choosers slots (now (fills .entry))) most spare domain) ⌝ }
 {
     let need = need_by_fills(slots, choosers, from, fills, tables);
@@ -284,7 +306,7 @@ pub fn open_places(
     fills: &[usize; 24],
     domain: u64,
 ) -> u64
-    ensures { λ r. ⌜ r ≡ openPlaces (entryAt (now (tables .entry))) counts (now (mins .entry)) (now (maxs .entry)) (now (optional .entry)) choice (now (sums .entry)) (now (fills .entry)) domain ⌝ }
+    ensures { λ r. ⌜ r ≡ openPlaces (entryAt (now (tables .entry))) (weightAt (now (tables .entry))) counts (now (mins .entry)) (now (maxs .entry)) (now (optional .entry)) choice (now (sums .entry)) (now (fills .entry)) domain ⌝ }
 {
     if 24 < counts.slots {
         return 0;
@@ -296,7 +318,7 @@ pub fn open_places(
     }
     let most = amount_of(maxs, choice);
     let from = choice + 1;
-    let spare = counts.choices - from;
+    let spare = weight_after(tables, counts.choices, from);
     places_left(
         counts.slots,
         counts.choosers,

@@ -14,7 +14,7 @@ use Rattle.place_sets.specs.Domains.{settled, lowestFrom, lowestPlace}
 use Rattle.place_sets.proofs.DomainLaws.{settled-one}
 
 -- the zeros below the lowest bit from a place on
-trailing-from : (place n domain : ℕ) → place + trailingZeros n (domain / 2 ^ place) ≡ lowestFrom place n domain
+pub trailing-from : (place n domain : ℕ) → place + trailingZeros n (domain / 2 ^ place) ≡ lowestFrom place n domain
 unfolding trailingZeros lowestFrom has
 trailing-from place zero domain = add-zero place
 trailing-from place (suc n) domain = go (domain / 2 ^ place % 2) refl (trailing-from (suc place) n domain)
@@ -37,7 +37,7 @@ lowest-law domain = below 64
     below n = ap (trailingZeros n) (sym (div-one domain)) ∙ sym (zero-add (trailingZeros n (domain / 2 ^ 0))) ∙ trailing-from 0 n domain
 
 -- the domain has it, if it isn't past the places looked at
-lowest-has : (place n domain : ℕ) → lowestFrom place n domain < place + n → has domain (lowestFrom place n domain) ≡ true
+pub lowest-has : (place n domain : ℕ) → lowestFrom place n domain < place + n → has domain (lowestFrom place n domain) ≡ true
 unfolding lowestFrom
 lowest-has place zero domain h = absurd (omega arith)
 lowest-has place (suc n) domain h = go (has domain place) refl h (lowest-has (suc place) n domain)
@@ -49,7 +49,7 @@ lowest-has place (suc n) domain h = go (has domain place) refl h (lowest-has (su
     go false t h ih = ih (omega arith)
 
 -- and none below it
-lowest-le : (place n domain p : ℕ) → place ≤ p → p < place + n → has domain p ≡ true → lowestFrom place n domain ≤ p
+pub lowest-le : (place n domain p : ℕ) → place ≤ p → p < place + n → has domain p ≡ true → lowestFrom place n domain ≤ p
 unfolding lowestFrom
 lowest-le place zero domain p l h t = absurd (omega arith)
 lowest-le place (suc n) domain p l h t = go (has domain place) refl (lowest-le (suc place) n domain p)

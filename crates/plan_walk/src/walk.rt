@@ -1,26 +1,22 @@
 // The walk itself, in 01's form for the listing. A slice is copied at each call, a reference to it isn't; the buffer alone can't be had behind one.
 use listing_starts::full::list_full;
-use walk_steps::next::see_first;
+use look_ahead::look::look_ahead;
+use look_ahead::see::near_end;
+use page_answers::ready::goes_on;
+use walk_steps::next::open_next;
+use walk_steps::next::rows_after;
 use walk_steps::stand::leave_place;
 use walk_steps::stand::take_place;
-ghost use mathlib.Core.Path.{_≡_};
 ghost use mathlib.Core.Bool.{true};
 ghost use Prim.Native.Nat.{_+_, _-_};
 ghost use lib.ListN.{length, getD, take};
 ghost use Rattle.scheduling.specs.Day.{dayOf};
 ghost use Rattle.listing_nodes.specs.steps.Walk.{countsOf};
-ghost use Rattle.alive_starts.specs.Run.{standing, goesOn};
-ghost use Rattle.walk_steps.specs.Sight.{eventsFrom, eventsLeft};
+ghost use Rattle.alive_starts.specs.Run.{standing};
+ghost use Rattle.walk_steps.specs.Sight.{eventsFrom, eventsSeen, eventsLeft};
 ghost use Rattle.walk_steps.specs.Walks.{Ready, Walked, Takes};
 
-// Whether the plan after the page hasn't been met yet, by the numbers asked.
-fn goes_on(asked: &[usize; 6], met: u64) -> bool
-    ensures { λ r. ⌜ r ≡ goesOn (getD (now (asked .entry)) 4 0) (getD (now (asked .entry)) 5 0) met ⌝ }
-{
-    page_answers::page::goes_on(asked[4] as u64, asked[5] as u64, met)
-}
-
-// 'one function per choice': a start takes a turn, and its choice takes the places that are seen for it.
+// 'one function per choice': a start takes a turn, looks ahead if enough choices are left, and goes on to the places that are open.
 pub(crate) fn walk_choice(
     asked: &[usize; 6],
     mins: &&[u16],
@@ -48,8 +44,64 @@ pub(crate) fn walk_choice(
         list_full(asked, *rows, fills, *plan, met, buffer);
         return goes_on(asked, *met);
     }
-    let mut seen = *domains;
-    let left = see_first(
+    if near_end(plan.len(), choice) {
+        return walk_open(
+            asked,
+            mins,
+            maxs,
+            optional,
+            rows,
+            tables,
+            domains,
+            choice,
+            plan,
+            sums,
+            fills,
+            turns,
+            met,
+            buffer,
+        );
+    }
+    let seen = look_ahead(asked, *mins, *maxs, *rows, tables, choice, *plan, domains);
+    walk_open(
+        asked,
+        mins,
+        maxs,
+        optional,
+        rows,
+        tables,
+        &seen,
+        choice,
+        plan,
+        sums,
+        fills,
+        turns,
+        met,
+        buffer,
+    )
+}
+
+// The choice takes the places that are open to it; the rows that it decides are left behind.
+fn walk_open(
+    asked: &[usize; 6],
+    mins: &&[u16],
+    maxs: &&[u16],
+    optional: &&[u8],
+    rows: &&[u64],
+    tables: &[u16; 52_516],
+    domains: &[u64; 64],
+    choice: usize,
+    plan: &mut &mut [u8],
+    sums: &mut [usize; 24],
+    fills: &mut [usize; 24],
+    turns: &mut u64,
+    met: &mut u64,
+    buffer: &mut [u8],
+) -> bool
+    requires { ⌜ Ready (dayOf (countsOf (now asked)) (now (now mins)) (now (now maxs)) (now (now optional)) (now (now rows))) (getD (now asked) 4 0) (getD (now asked) 5 0) (choice + 1) choice (now (now plan)) (now sums) (now fills) (now turns) (now met) (now buffer) ⌝ }
+    ensures { λ r. ⌜ Walked (getD (now (asked .entry)) 4 0) (getD (now (asked .entry)) 5 0) choice (eventsSeen (dayOf (countsOf (now (asked .entry))) (now (now (mins .entry))) (now (now (maxs .entry))) (now (now (optional .entry))) (now (now (rows .entry)))) (now (tables .entry)) (length (now (now (plan .entry))) - (choice + 1)) (take choice (now (now (plan .entry)))) (now (sums .entry)) (now (fills .entry)) (now (domains .entry))) (now (now (plan .entry))) (now (now (plan .exit))) (now (sums .entry)) (now (sums .exit)) (now (fills .entry)) (now (fills .exit)) (standing true (now (turns .entry)) (now (met .entry)) (now (buffer .entry))) (standing r (now (turns .exit)) (now (met .exit)) (now (buffer .exit))) ⌝ }
+{
+    let opened = open_next(
         asked,
         *mins,
         *maxs,
@@ -60,21 +112,23 @@ pub(crate) fn walk_choice(
         *plan,
         sums,
         fills,
-        &mut seen,
+        domains,
     );
-    if left == 0 {
+    if opened.left == 0 {
         return true;
     }
+    let after = rows_after(*rows, opened.front);
     walk_place(
         asked,
         mins,
         maxs,
         optional,
-        rows,
+        &after,
         tables,
-        &seen,
+        domains,
         choice,
-        left,
+        opened.places,
+        opened.left,
         plan,
         sums,
         fills,
@@ -84,7 +138,7 @@ pub(crate) fn walk_choice(
     )
 }
 
-// 'one per place': the choice stands there while the walk goes on to the next choice; then it takes the next place that it may.
+// 'one per place': the choice stands there while the walk goes on to the next choice; then it takes the next place that is open.
 fn walk_place(
     asked: &[usize; 6],
     mins: &&[u16],
@@ -94,6 +148,7 @@ fn walk_place(
     tables: &[u16; 52_516],
     domains: &[u64; 64],
     choice: usize,
+    places: u64,
     left: usize,
     plan: &mut &mut [u8],
     sums: &mut [usize; 24],
@@ -102,8 +157,8 @@ fn walk_place(
     met: &mut u64,
     buffer: &mut [u8],
 ) -> bool
-    requires { ⌜ Ready (dayOf (countsOf (now asked)) (now (now mins)) (now (now maxs)) (now (now optional)) (now (now rows))) (getD (now asked) 4 0) (getD (now asked) 5 0) (choice + 1) choice (now (now plan)) (now sums) (now fills) (now turns) (now met) (now buffer) × Takes (dayOf (countsOf (now asked)) (now (now mins)) (now (now maxs)) (now (now optional)) (now (now rows))) choice left (now sums) (now domains) ⌝ }
-    ensures { λ r. ⌜ Walked (getD (now (asked .entry)) 4 0) (getD (now (asked .entry)) 5 0) choice (eventsLeft (dayOf (countsOf (now (asked .entry))) (now (now (mins .entry))) (now (now (maxs .entry))) (now (now (optional .entry))) (now (now (rows .entry)))) (now (tables .entry)) (length (now (now (plan .entry))) - (choice + 1)) (take choice (now (now (plan .entry)))) (now (sums .entry)) (now (fills .entry)) (now (domains .entry)) left) (now (now (plan .entry))) (now (now (plan .exit))) (now (sums .entry)) (now (sums .exit)) (now (fills .entry)) (now (fills .exit)) (standing true (now (turns .entry)) (now (met .entry)) (now (buffer .entry))) (standing r (now (turns .exit)) (now (met .exit)) (now (buffer .exit))) ⌝ }
+    requires { ⌜ Ready (dayOf (countsOf (now asked)) (now (now mins)) (now (now maxs)) (now (now optional)) (now (now rows))) (getD (now asked) 4 0) (getD (now asked) 5 0) (choice + 1) choice (now (now plan)) (now sums) (now fills) (now turns) (now met) (now buffer) × Takes (dayOf (countsOf (now asked)) (now (now mins)) (now (now maxs)) (now (now optional)) (now (now rows))) choice places left (now sums) ⌝ }
+    ensures { λ r. ⌜ Walked (getD (now (asked .entry)) 4 0) (getD (now (asked .entry)) 5 0) choice (eventsLeft (dayOf (countsOf (now (asked .entry))) (now (now (mins .entry))) (now (now (maxs .entry))) (now (now (optional .entry))) (now (now (rows .entry)))) (now (tables .entry)) (length (now (now (plan .entry))) - (choice + 1)) (take choice (now (now (plan .entry)))) (now (sums .entry)) (now (fills .entry)) (now (domains .entry)) places left) (now (now (plan .entry))) (now (now (plan .exit))) (now (sums .entry)) (now (sums .exit)) (now (fills .entry)) (now (fills .exit)) (standing true (now (turns .entry)) (now (met .entry)) (now (buffer .entry))) (standing r (now (turns .exit)) (now (met .exit)) (now (buffer .exit))) ⌝ }
 {
     let stood = take_place(asked, mins, maxs, choice, left, plan, sums, fills);
     let going = walk_choice(
@@ -122,7 +177,7 @@ fn walk_place(
         met,
         buffer,
     );
-    let next = leave_place(asked, stood, choice, left, domains, sums, fills);
+    let next = leave_place(asked, stood, left, places, sums, fills);
     if !going {
         return false;
     }
@@ -138,6 +193,7 @@ fn walk_place(
         tables,
         domains,
         choice,
+        places,
         next,
         plan,
         sums,

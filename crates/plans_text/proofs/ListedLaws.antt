@@ -26,7 +26,7 @@ use Rattle.listing_nodes.proofs.Members.{placement-length, sized-plans}
 use Rattle.listing_nodes.proofs.PageLaws.{Sized, none, more, page-length}
 use Rattle.alive_starts.specs.Page.{PageTold, endedTold, goesOnTold, turnsTold, pagePut, Gives, ended, goes-on, out}
 use Rattle.page_answers.specs.Page.{pagedTells}
-use Rattle.plan_walk.specs.Page.{Fits, refuses, gives}
+use Rattle.plan_pages.specs.Page.{Fits, refuses, gives}
 use Rattle.page_answers.specs.declared.page.Paged.{Paged}
 use Rattle.page_answers.specs.declared.page.Paged.the-variants as paged
 use Rattle.texts.specs.Put.{Pool, pool, putAt}

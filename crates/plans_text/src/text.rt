@@ -7,7 +7,7 @@ use day_file::read::Read;
 use day_file::read::read_day;
 use day_file::word::LONGEST_FILE;
 use page_answers::page::Paged;
-use plan_walk::page::list_page;
+use plan_pages::page::list_page;
 use planner::blank;
 use planner::made::Made;
 use planner::refusal::put_refusal;

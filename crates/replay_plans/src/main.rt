@@ -1,4 +1,4 @@
-// Replays whole texts of the programs `plans` and `plan`, whose answers were told from document 01 alone.
+// Replays whole texts of the program `plans`, whose answers were told from document 01 alone.
 use cases::BLANK;
 use cases::Next;
 use cases::Tally;
@@ -6,61 +6,28 @@ use cases::ended;
 use cases::fill;
 use cases::is_filled;
 use cases::number;
-use cases::plus;
-use cases::same;
 use cases::word;
 use constraint::refusal::Refusal;
-use plan_lines::lines;
-use plan_text::text::plan_text;
 use planner::made::Made;
 use plans_text::text::LONGEST_TEXT;
 use plans_text::text::plans_text;
+use text_cases::length_at;
+use text_cases::record_pool;
+use text_cases::text_agrees;
 ghost use mathlib.Core.Path.{_≡_};
 ghost use lib.ListN.{length};
 
 // The length that marks a case with no text.
 const NO_TEXT: usize = 0xffff_ffff;
 
-// Where a record's file begins, of `plans` and of `plan`.
+// Where a record's file begins.
 const FILE_AT: usize = 28;
-
-const PLAN_FILE_AT: usize = 4;
 
 // Room for the longest text of `plans`.
 fn text_pool() -> [u8; LONGEST_TEXT]
     ensures { λ r. ⌜ 288818 ≡ length r ⌝ }
 {
     [BLANK; LONGEST_TEXT]
-}
-
-// Room for the longest text of `plan`.
-fn plan_pool() -> [u8; lines::LONGEST_TEXT]
-    ensures { λ r. ⌜ 1311 ≡ length r ⌝ }
-{
-    [BLANK; lines::LONGEST_TEXT]
-}
-
-// Room for the longest record.
-fn record_pool() -> [u8; 65_536]
-    ensures { λ r. ⌜ 65536 ≡ length r ⌝ }
-{
-    [0; 65_536]
-}
-
-// The four bytes from a place on, high byte first.
-fn length_at(bytes: &[u8], at: usize) -> usize {
-    (word(bytes, at) as usize) * 65_536 + (word(bytes, plus(at, 2)) as usize)
-}
-
-// Whether the pool holds the text that stands from a place on with its length before it, and zeros past it.
-fn text_agrees(bytes: &[u8], at: usize, size: usize, text: &[u8]) -> bool {
-    if size != length_at(bytes, at) {
-        return false;
-    }
-    if !same(text, 0, bytes, plus(at, 4), size) {
-        return false;
-    }
-    is_filled(text, size, 0)
 }
 
 // Whether no text was expected: the room's refusal, and the pool as it was.
@@ -82,21 +49,6 @@ fn told_agrees(bytes: &[u8], at: usize, told: Made, text: &[u8]) -> bool {
     }
 }
 
-// One case of `plan`: a file with its length before it, then the answer.
-fn plan_agrees(bytes: &[u8], text: &mut [u8]) -> bool {
-    let size = (word(bytes, 0) as usize) * 65_536 + word(bytes, 2) as usize;
-    let end = size + PLAN_FILE_AT;
-    if bytes.len() < end {
-        return false;
-    }
-    fill(text, BLANK);
-    let told = plan_text(&bytes[PLAN_FILE_AT..end], text);
-    match told {
-        Made::Text(size) => text_agrees(bytes, end, size, text),
-        Made::Refused(_) => false,
-    }
-}
-
 // One case of `plans`: the first number, the room and the budget, a file with its length before it, then the answer.
 fn agrees(bytes: &[u8], text: &mut [u8]) -> bool {
     let size = (word(bytes, 24) as usize) * 65_536 + word(bytes, 26) as usize;
@@ -115,7 +67,7 @@ fn agrees(bytes: &[u8], text: &mut [u8]) -> bool {
     told_agrees(bytes, end, told, text)
 }
 
-// Every record of the file of `plans`.
+// Every record of the file.
 fn replay(file: i32, bytes: &mut [u8], text: &mut [u8]) -> Tally {
     let mut tally = Tally::new();
     let mut left = 0x1_0000_0000u64;
@@ -130,29 +82,10 @@ fn replay(file: i32, bytes: &mut [u8], text: &mut [u8]) -> Tally {
     tally
 }
 
-// Every record of the file of `plan`.
-fn replay_plan(file: i32, bytes: &mut [u8], text: &mut [u8]) -> Tally {
-    let mut tally = Tally::new();
-    let mut left = 0x1_0000_0000u64;
-    while 0 < left {
-        let next = cases::read_next(file, bytes);
-        let Next::Record(_) = next else {
-            return ended(next, tally);
-        };
-        tally = tally.with(plan_agrees(bytes, text));
-        left -= 1;
-    }
-    tally
-}
-
 fn main() {
     let mut bytes = record_pool();
     let file = cases::open();
     let mut text = text_pool();
     let tally = replay(file, &mut bytes, &mut text);
     tally.tell(b"plans");
-    let plan_file = os::open_read(b"plan");
-    let mut plan = plan_pool();
-    let second = replay_plan(plan_file, &mut bytes, &mut plan);
-    second.tell(b"plan");
 }

@@ -3,3 +3,4 @@ pub mod StandLaws
 pub mod SlotLaws
 pub mod LimitLaws
 pub mod StepLaws
+pub mod SumLaws

@@ -17,7 +17,13 @@ use Rattle.place_sets.proofs.DomainLaws.{number-le, number-stands, only-has}
 
 -- ---- sums over those that pass a test
 
--- terms that are at most others, and one of them by as much as d: so are the sums
+-- terms that are at most others: so are the sums
+sum-le : (n : ℕ) (f g : ℕ → ℕ) → ((i : ℕ) → i < n → f i ≤ g i) → sumBelow n f ≤ sumBelow n g
+unfolding sumBelow
+sum-le zero f g h = omega arith
+sum-le (suc n) f g h = omega (arith, sum-le n f g (λ i m. h i (omega arith)), h n (omega arith))
+
+-- and by as much as d if one of the terms is
 sum-apart : (n : ℕ) (f g : ℕ → ℕ) (k d : ℕ) → ((i : ℕ) → i < n → f i ≤ g i) → k < n → f k + d ≤ g k → sumBelow n f + d ≤ sumBelow n g
 unfolding sumBelow
 sum-apart zero f g k d h l e = absurd (not-suc-le-zero l)
@@ -26,13 +32,9 @@ sum-apart (suc n) f g k d h l e =
       | yes q ↦ omega (arith, sum-le n f g (λ i m. h i (omega arith)), rw q at e)
       | no q ↦ omega (arith, sum-apart n f g k d (λ i m. h i (omega arith)) (omega arith) e, h n (omega arith))
     ]
-  where
-    sum-le : (n : ℕ) (f g : ℕ → ℕ) → ((i : ℕ) → i < n → f i ≤ g i) → sumBelow n f ≤ sumBelow n g
-    sum-le zero f g h = omega arith
-    sum-le (suc n) f g h = omega (arith, sum-le n f g (λ i m. h i (omega arith)), h n (omega arith))
 
--- what passes one test passes the other: the amounts of those that pass, with the one choice apart
-module _ (n : ℕ) (amount : ℕ → ℕ) (p q : ℕ → Bool) (up : (i : ℕ) → i < n → p i ≡ true → q i ≡ true) (k : ℕ) (l : k < n) where
+-- what passes one test passes the other: the amounts of those that pass
+module _ (n : ℕ) (amount : ℕ → ℕ) (p q : ℕ → Bool) (up : (i : ℕ) → i < n → p i ≡ true → q i ≡ true) where
   each : (i : ℕ) → i < n → cond (p i) (amount i) 0 ≤ cond (q i) (amount i) 0
   each i m = go (p i) refl
     where
@@ -40,23 +42,28 @@ module _ (n : ℕ) (amount : ℕ → ℕ) (p q : ℕ → Bool) (up : (i : ℕ) �
       go true t = rw (up i m t) (omega arith)
       go false t = omega arith
 
-  -- it passes the wider test: its amount is added to the narrower sum if it isn't there
-  pub sum-in : q k ≡ true
-      → sumBelow n (λ i. cond (p i) (amount i) 0) + cond (p k) 0 (amount k) ≤ sumBelow n (λ i. cond (q i) (amount i) 0)
-  sum-in t =
-      sum-apart n (λ i. cond (p i) (amount i) 0) (λ i. cond (q i) (amount i) 0) k (cond (p k) 0 (amount k)) each l
-      (rw t (go (p k)))
-    where
-      go : (b : Bool) → cond b (amount k) 0 + cond b 0 (amount k) ≤ amount k
-      go true = omega arith
-      go false = omega arith
+  pub sum-all : sumBelow n (λ i. cond (p i) (amount i) 0) ≤ sumBelow n (λ i. cond (q i) (amount i) 0)
+  sum-all = sum-le n (λ i. cond (p i) (amount i) 0) (λ i. cond (q i) (amount i) 0) each
 
-  -- it fails the narrower test: the wider sum has its amount besides, if it has it
-  pub sum-out : p k ≡ false
-      → sumBelow n (λ i. cond (p i) (amount i) 0) + cond (q k) (amount k) 0 ≤ sumBelow n (λ i. cond (q i) (amount i) 0)
-  sum-out t =
-      sum-apart n (λ i. cond (p i) (amount i) 0) (λ i. cond (q i) (amount i) 0) k (cond (q k) (amount k) 0) each l
-      (rw t (omega arith))
+  -- with the one choice apart
+  module _ (k : ℕ) (l : k < n) where
+    -- it passes the wider test: its amount is added to the narrower sum if it isn't there
+    pub sum-in : q k ≡ true
+        → sumBelow n (λ i. cond (p i) (amount i) 0) + cond (p k) 0 (amount k) ≤ sumBelow n (λ i. cond (q i) (amount i) 0)
+    sum-in t =
+        sum-apart n (λ i. cond (p i) (amount i) 0) (λ i. cond (q i) (amount i) 0) k (cond (p k) 0 (amount k)) each l
+        (rw t (go (p k)))
+      where
+        go : (b : Bool) → cond b (amount k) 0 + cond b 0 (amount k) ≤ amount k
+        go true = omega arith
+        go false = omega arith
+
+    -- it fails the narrower test: the wider sum has its amount besides, if it has it
+    pub sum-out : p k ≡ false
+        → sumBelow n (λ i. cond (p i) (amount i) 0) + cond (q k) (amount k) 0 ≤ sumBelow n (λ i. cond (q i) (amount i) 0)
+    sum-out t =
+        sum-apart n (λ i. cond (p i) (amount i) 0) (λ i. cond (q i) (amount i) 0) k (cond (q k) (amount k) 0) each l
+        (rw t (omega arith))
 
 -- ---- the plan's places
 

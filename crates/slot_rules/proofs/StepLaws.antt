@@ -2,7 +2,7 @@
 use mathlib.Core.Path.{_≡_, refl, sym, _∙_, ap, ap₂}
 use mathlib.Core.Bool.{Bool, true, false, _&&_, not, cond, false≢true}
 use mathlib.Core.List.{List}
-use Prim.Native.Nat.{ℕ, zero, suc, _+_, _-_, _^_, _≤_, _<_, max}
+use Prim.Native.Nat.{ℕ, zero, suc, _+_, _-_, _^_, _≤_, _<_}
 use native.Mathlib.Decide.{ℕ-discrete}
 use native.Mathlib.Numerals.{add-one}
 use native.Mathlib.Omega.{arith}
@@ -21,17 +21,10 @@ use Rattle.choice_sets.specs.Sets.{has}
 use Rattle.place_sets.specs.Domains.{onlyPlace, keptPlaces, eachBelow}
 use Rattle.place_sets.proofs.PlaceLaws.{kept-all}
 use Rattle.place_sets.proofs.DomainLaws.{only-has, each-same}
-use Rattle.slot_rules.specs.SlotRules.{certain, possible, minimumFits, maximumSpared, slotLeaves, sumsLeave, largestBelow, idle, slotRule, slotsBelow, amountsFit, slotsRule, mustCount, mayCount, opCan, limitLeaves, limitFits, limitRule}
+use Rattle.slot_rules.specs.SlotRules.{certain, possible, eachLeft, amountsFit, slotsRule, mustCount, mayCount, opCan, limitLeaves, limitFits, limitRule}
 use Rattle.slot_rules.specs.steps.Limits.{limitIdle, InWords}
 
 -- ---- small functions
-
--- an amount, or nothing
-pub given-none : (test : Bool) (amount : ℕ) → test ≡ false → (0 ≡ cond test amount 0) × (0 ≤ 65535)
-given-none test amount e = (rw e, omega arith)
-
-pub given-all : (test : Bool) (amount : ℕ) → test ≡ true → amount ≤ 65535 → (amount ≡ cond test amount 0) × (amount ≤ 65535)
-given-all test amount e h = (rw e, h)
 
 -- a sum of two against a third, the second taken from it
 pub sum-over : (a b c : ℕ) → c < b → false ≡ leb (a + b) c
@@ -173,22 +166,6 @@ module _ (domains : List ℕ) (slot : ℕ) where
 
 -- ---- one domain
 
-not-cond : (b : Bool) (x : ℕ) → cond (not b) x 0 ≡ cond b 0 x
-not-cond true x = refl
-not-cond false x = refl
-
-pub slot-leaves : (choosers slot sure able least most domain low high r : ℕ) (only here stands leaves : Bool)
-    → only ≡ eqb domain (onlyPlace slot) → low ≡ cond (not only) least 0 → stands ≡ leb (sure + low) choosers
-    → here ≡ has domain slot → high ≡ cond here most 0 → leaves ≡ leb (choosers + high) able
-    → r ≡ keptPlaces domain slot stands leaves → r ≡ slotLeaves choosers slot sure able least most domain
-unfolding slotLeaves minimumFits maximumSpared
-slot-leaves choosers slot sure able least most domain low high r only here stands leaves o l s h m t e =
-    let low' : low ≡ cond (eqb domain (onlyPlace slot)) 0 least = l ∙ not-cond only least ∙ ap (λ (b : Bool). cond b 0 least) o in
-    let high' : high ≡ cond (has domain slot) most 0 = m ∙ ap (λ (b : Bool). cond b most 0) h in
-    e
-    ∙ ap₂ (λ (a b : Bool). keptPlaces domain slot a b) (s ∙ ap (λ (x : ℕ). leb (sure + x) choosers) low')
-    (t ∙ ap (λ (x : ℕ). leb (choosers + x) able) high')
-
 pub limit-leaves : (row : Row) (must may domain m1 m2 m3 m4 r : ℕ) (only here stands leaves : Bool)
     → only ≡ eqb domain (onlyPlace (row .left)) → here ≡ has domain (row .left)
     → m1 ≡ must + one (not only) → m2 ≡ may + one (not here) → stands ≡ opCan (row .extra) m1 m2 (row .right)
@@ -208,7 +185,7 @@ unfolding eachBelow
 each-none rule domains = refl
 
 -- those not yet changed are as the rule found them
-each-later : (n : ℕ) (rule : ℕ → ℕ → ℕ) (domains : List ℕ) (i : ℕ) → n ≤ i → getD (eachBelow n rule domains) i 0 ≡ getD domains i 0
+pub each-later : (n : ℕ) (rule : ℕ → ℕ → ℕ) (domains : List ℕ) (i : ℕ) → n ≤ i → getD (eachBelow n rule domains) i 0 ≡ getD domains i 0
 unfolding eachBelow
 each-later zero rule domains i h = refl
 each-later (suc n) rule domains i h =
@@ -223,62 +200,9 @@ each-more n rule first domains v e f =
     let g : getD domains n 0 ≡ getD first n 0 = ap (λ (l : List ℕ). getD l n 0) e ∙ each-later n rule first n (omega arith) in
     rw (add-one n) (ap₂ (λ (l : List ℕ) (x : ℕ). set l n x) e (f ∙ ap (rule n) g))
 
--- what the loops hand on: the rules with the sums and counts that the code has
-abbrev pub slotStep : Counts → ℕ → ℕ → ℕ → List ℕ → List ℕ → ℕ → ℕ → ℕ
-slotStep counts slot sure able mins maxs choice domain =
-    slotLeaves (counts .choosers) slot sure able (getD mins choice 0) (getD maxs choice 0) domain
-
+-- what the loop hands on: the rule with the counts that the code has
 abbrev pub limitStep : Row → ℕ → ℕ → ℕ → ℕ → ℕ
 limitStep row must may choice domain = limitLeaves row must may domain
-
-pub sums-done : (counts : Counts) (mins maxs first domains : List ℕ) (slot sure able : ℕ) → domains ≡ eachBelow (counts .choices) (slotStep counts slot sure able mins maxs) first
-    → domains ≡ sumsLeave counts mins maxs slot sure able first
-unfolding sumsLeave
-sums-done counts mins maxs first domains slot sure able e = e
-
--- ---- a slot passed over
-
-pub largest-none : (amounts : List ℕ) → 0 ≡ largestBelow 0 amounts
-unfolding largestBelow
-largest-none amounts = refl
-
-pub largest-more : (n : ℕ) (amounts : List ℕ) (high r : ℕ) → high ≡ largestBelow n amounts → r ≡ max high (getD amounts n 0)
-    → r ≡ largestBelow (n + 1) amounts
-unfolding largestBelow
-largest-more n amounts high r e f =
-    f ∙ ap (λ (x : ℕ). max x (getD amounts n 0)) e ∙ ap (λ (k : ℕ). largestBelow k amounts) (sym (add-one n))
-
--- no room for the largest minimum; else the largest maximum decides
-module _ (choosers sure able least most : ℕ) where
-  pub idle-not : (fits : Bool) → fits ≡ leb (sure + least) choosers → fits ≡ false → false ≡ idle choosers sure able least most
-  unfolding idle
-  idle-not fits e f = rw (sym e ∙ f)
-
-  pub idle-by : (fits spared : Bool) → fits ≡ leb (sure + least) choosers → fits ≡ true → spared ≡ leb (choosers + most) able
-      → spared ≡ idle choosers sure able least most
-  unfolding idle
-  idle-by fits spared e f g = rw (sym e ∙ f) g
-
-module _ (counts : Counts) (mins maxs first : List ℕ) (slot sure able least most : ℕ) (test : Bool)
-    (a : sure ≡ certain (counts .choices) mins first slot) (b : able ≡ possible (counts .choices) maxs first slot)
-    (l : least ≡ largestBelow (counts .choices) mins) (m : most ≡ largestBelow (counts .choices) maxs)
-    (e : test ≡ idle (counts .choosers) sure able least most) where
-  -- the test with the sums and the largest amounts that the code has
-  test-is : test
-      ≡ idle (counts .choosers) (certain (counts .choices) mins first slot) (possible (counts .choices) maxs first slot)
-      (largestBelow (counts .choices) mins) (largestBelow (counts .choices) maxs)
-  test-is =
-      e ∙ ap₂ (λ (x y : ℕ). idle (counts .choosers) x y least most) a b
-      ∙ ap₂ (λ (x y : ℕ). idle (counts .choosers) (certain (counts .choices) mins first slot) (possible (counts .choices) maxs first slot) x y) l m
-
-  pub slot-idle : test ≡ true → first ≡ slotRule counts mins maxs slot first
-  unfolding slotRule
-  slot-idle t = rw (sym test-is ∙ t)
-
-  pub slot-done : (domains : List ℕ) → test ≡ false → domains ≡ sumsLeave counts mins maxs slot sure able first → domains ≡ slotRule counts mins maxs slot first
-  unfolding slotRule
-  slot-done domains t d =
-      rw (sym test-is ∙ t) (d ∙ ap₂ (λ (x y : ℕ). sumsLeave counts mins maxs slot x y first) a b)
 
 -- ---- a limit passed over
 
@@ -385,17 +309,6 @@ module _ (row : Row) (must may : ℕ) where
       ap₂ (λ (x y : Bool). keptPlaces domain (row .left) x y) (idle-stands t only here i) (idle-leaves t only here i)
       ∙ sym (kept-all domain (row .left) w)
 
--- ---- every slot
-
-pub slots-none : (counts : Counts) (mins maxs domains : List ℕ) → domains ≡ slotsBelow counts mins maxs 0 domains
-unfolding slotsBelow
-slots-none counts mins maxs domains = refl
-
-pub slots-more : (counts : Counts) (mins maxs first domains next : List ℕ) (slot : ℕ) → domains ≡ slotsBelow counts mins maxs slot first
-    → next ≡ slotRule counts mins maxs slot domains → next ≡ slotsBelow counts mins maxs (slot + 1) first
-unfolding slotsBelow
-slots-more counts mins maxs first domains next slot e f = rw (add-one slot) (f ∙ ap (slotRule counts mins maxs slot) e)
-
 -- ---- the calls
 
 module _ (counts : Counts) (mins maxs domains : List ℕ) where
@@ -417,7 +330,7 @@ module _ (counts : Counts) (mins maxs domains : List ℕ) where
   slots-maxs c s a n = rw (le-leb _ _ c, le-leb _ _ s, eq-eqb _ _ a, ne-eqb _ _ n)
 
   pub slots-done : counts .choices ≤ 64 → counts .slots ≤ 24 → length mins ≡ counts .choices → length maxs ≡ counts .choices
-      → slotsBelow counts mins maxs (counts .slots) domains ≡ slotsRule counts mins maxs domains
+      → eachLeft counts mins maxs (certain (counts .choices) mins domains) (possible (counts .choices) maxs domains) domains ≡ slotsRule counts mins maxs domains
   unfolding slotsRule amountsFit
   slots-done c s a b = rw (le-leb _ _ c, le-leb _ _ s, eq-eqb _ _ a, eq-eqb _ _ b)
 

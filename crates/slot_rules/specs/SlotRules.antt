@@ -1,14 +1,14 @@
 -- What 'Each slot: sum of min <= H <= sum of max' and a row of kind 6 leave of each choice's places.
 use mathlib.Core.Bool.{Bool, false, _&&_, not, cond}
 use mathlib.Core.List.{List}
-use Prim.Native.Nat.{ℕ, zero, suc, _+_, _-_, max}
+use Prim.Native.Nat.{ℕ, _+_, _-_}
 use lib.Dec.{eqb, ltb, leb}
 use lib.ListN.{length, getD}
-use Rattle.lists.specs.Below.{one, countBelow, sumBelow}
+use Rattle.lists.specs.Below.{one, allBelow, countBelow, sumBelow}
 use Rattle.constraint.specs.Op.{eqOp, gtOp, geqOp, neqOp, leqOp, ltOp}
 use Rattle.constraint.specs.declared.check.Counts.{Counts}
 use Rattle.constraint.specs.declared.row.Row.{Row}
-use Rattle.choice_sets.specs.Sets.{has}
+use Rattle.choice_sets.specs.Sets.{has, setOf}
 use Rattle.place_sets.specs.Domains.{onlyPlace, keptPlaces, eachBelow}
 
 -- what must stand in the slot: the amounts of the choices that have no other place
@@ -29,41 +29,32 @@ minimumFits choosers slot sure least domain = leb (sure + cond (eqb domain (only
 unfoldable pub maximumSpared : ℕ → ℕ → ℕ → ℕ → ℕ → Bool
 maximumSpared choosers slot able most domain = leb (choosers + cond (has domain slot) most 0) able
 
--- what a slot's two sums leave of one domain
-unfoldable pub slotLeaves : ℕ → ℕ → ℕ → ℕ → ℕ → ℕ → ℕ → ℕ
-slotLeaves choosers slot sure able least most domain =
-    keptPlaces domain slot (minimumFits choosers slot sure least domain) (maximumSpared choosers slot able most domain)
+-- a slot's sums let a choice take a place: the slot itself, or one elsewhere
+unfoldable pub slotAllows : ℕ → ℕ → ℕ → ℕ → ℕ → ℕ → ℕ → ℕ → Bool
+slotAllows choosers sure able least most domain place slot =
+    cond (eqb place slot) (minimumFits choosers slot sure least domain) (maximumSpared choosers slot able most domain)
 
--- what a slot's two sums leave of every domain
-unfoldable pub sumsLeave : Counts → List ℕ → List ℕ → ℕ → ℕ → ℕ → List ℕ → List ℕ
-sumsLeave counts mins maxs slot sure able domains =
+-- what the first slots leave of one domain: the places that each of them allows
+unfoldable pub slotsLeave : ℕ → (ℕ → ℕ) → (ℕ → ℕ) → ℕ → ℕ → ℕ → ℕ → ℕ
+slotsLeave choosers sure able least most slots domain =
+    setOf 64 λ place.
+    has domain place && allBelow slots λ slot. slotAllows choosers (sure slot) (able slot) least most domain place slot
+
+-- 'sum of min <= H <= sum of max' by what must and what may stand in each slot; where it fails there is no plan
+unfoldable pub inOrder : Counts → (ℕ → ℕ) → (ℕ → ℕ) → Bool
+inOrder counts sure able = allBelow (counts .slots) λ slot. leb (sure slot) (counts .choosers) && leb (counts .choosers) (able slot)
+
+-- what every slot leaves of one domain: no place where the sums are out of order
+unfoldable pub sumsLeave : Counts → (ℕ → ℕ) → (ℕ → ℕ) → ℕ → ℕ → ℕ → ℕ
+sumsLeave counts sure able least most domain =
+    cond (inOrder counts sure able) (slotsLeave (counts .choosers) sure able least most (counts .slots) domain) 0
+
+-- what every slot leaves of every domain
+unfoldable pub eachLeft : Counts → List ℕ → List ℕ → (ℕ → ℕ) → (ℕ → ℕ) → List ℕ → List ℕ
+eachLeft counts mins maxs sure able domains =
     eachBelow (counts .choices)
-    (λ choice domain. slotLeaves (counts .choosers) slot sure able (getD mins choice 0) (getD maxs choice 0) domain)
+    (λ choice domain. sumsLeave counts sure able (getD mins choice 0) (getD maxs choice 0) domain)
     domains
-
--- the largest of the first amounts; 0 of none
-unfoldable pub largestBelow : ℕ → List ℕ → ℕ
-largestBelow zero amounts = 0
-largestBelow (suc n) amounts = max (largestBelow n amounts) (getD amounts n 0)
-
--- a slot whose sums leave room for the largest minimum and for the largest maximum; to pass it over is safe, whatever the test
-unfoldable pub idle : ℕ → ℕ → ℕ → ℕ → ℕ → Bool
-idle choosers sure able least most = leb (sure + least) choosers && leb (choosers + most) able
-
--- what a slot leaves of every domain; its sums are those of the domains as the rule finds them, and an idle slot is passed over
-unfoldable pub slotRule : Counts → List ℕ → List ℕ → ℕ → List ℕ → List ℕ
-slotRule counts mins maxs slot domains =
-    cond
-    (idle (counts .choosers) (certain (counts .choices) mins domains slot) (possible (counts .choices) maxs domains slot)
-    (largestBelow (counts .choices) mins) (largestBelow (counts .choices) maxs))
-    domains
-    (sumsLeave counts mins maxs slot (certain (counts .choices) mins domains slot)
-    (possible (counts .choices) maxs domains slot) domains)
-
--- the first slots, one after the other
-unfoldable pub slotsBelow : Counts → List ℕ → List ℕ → ℕ → List ℕ → List ℕ
-slotsBelow counts mins maxs zero domains = domains
-slotsBelow counts mins maxs (suc slot) domains = slotRule counts mins maxs slot (slotsBelow counts mins maxs slot domains)
 
 -- at most 64 choices and 24 slots, with a minimum and a maximum for each choice
 unfoldable pub amountsFit : Counts → List ℕ → List ℕ → Bool
@@ -71,10 +62,12 @@ amountsFit counts mins maxs =
     leb (counts .choices) 64 && leb (counts .slots) 24
     && eqb (length mins) (counts .choices) && eqb (length maxs) (counts .choices)
 
--- what every slot of the day leaves; what has no day's shape changes nothing
+-- what every slot of the day leaves, all sums taken once, of the domains as they are given; what has no day's shape changes nothing
 unfoldable pub slotsRule : Counts → List ℕ → List ℕ → List ℕ → List ℕ
 slotsRule counts mins maxs domains =
-    cond (amountsFit counts mins maxs) (slotsBelow counts mins maxs (counts .slots) domains) domains
+    cond (amountsFit counts mins maxs)
+    (eachLeft counts mins maxs (certain (counts .choices) mins domains) (possible (counts .choices) maxs domains) domains)
+    domains
 
 -- how many choices must stand in the slot
 unfoldable pub mustCount : ℕ → List ℕ → ℕ → ℕ

@@ -56,7 +56,7 @@ fn slot_counts(choices: usize, slot: usize, domains: &[u64; 64]) -> SlotCounts
 }
 
 // Whether a number lies from low to high.
-fn between(low: usize, number: usize, high: usize) -> bool
+pub(crate) fn between(low: usize, number: usize, high: usize) -> bool
     ensures { λ r. ⌜ r ≡ (leb low number && leb number high) ⌝ }
 {
     if number < low {

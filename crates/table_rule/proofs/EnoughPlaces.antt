@@ -14,18 +14,20 @@ use Rattle.constraint.specs.declared.check.Counts.{Counts}
 use Rattle.choice_sets.specs.Sets.{has, setOf}
 use Rattle.choice_sets.proofs.SetLaws.{has-set}
 use Rattle.scheduling.specs.Day.{Day}
-use Rattle.scheduling.specs.Plan.{slotOf, standsIn, sumIn}
+use Rattle.scheduling.specs.Plan.{slotOf, standsIn, sumUpTo, sumIn}
 use Rattle.scheduling.specs.Feasible.{feasible}
 use Rattle.scheduling.proofs.Meaning.{Feasible, Placed, feasible-means}
 use Rattle.plan_rows.proofs.PlanLaws.{stands-omitted, stands-by}
+use Rattle.weight_tables.specs.Weights.{least, leastOf, sumFrom}
 use Rattle.weight_tables.specs.Tables.{Filled, entryAt, weightAt, written}
-use Rattle.weight_tables.proofs.TableLaws.{written-in}
-use Rattle.weight_tables.proofs.EnoughLaws.{enough-need, enough-filled, enough-safe, start-sum}
+use Rattle.weight_tables.proofs.WeightLaws.{sum-join}
+use Rattle.weight_tables.proofs.TableLaws.{written-in, entry-least}
+use Rattle.weight_tables.proofs.StartLaws.{stands-only, start-sum}
 use Rattle.place_sets.specs.Domains.{placeNumber}
 use Rattle.place_sets.proofs.DomainLaws.{number-in}
 use Rattle.table_rule.specs.Rule.{needOf, slotKept}
-use Rattle.table_rule.specs.Enough.{lackAt, lacksAt, enoughWith, enoughAsked, enoughPlaces}
-use Rattle.table_rule.proofs.FillLaws.{change-one}
+use Rattle.table_rule.specs.Enough.{lackAt, lacksAt, weightAfter, enoughWith, enoughAsked, enoughPlaces}
+use Rattle.table_rule.proofs.FillLaws.{lacks-weigh, change-one}
 
 -- what is written for a slot stands at its place
 written-at : (slots : ℕ) (f : ℕ → ℕ) → slots ≤ 24 → (slot : ℕ) → slot < slots → getD (written slots 0 f (replicate 24 0)) slot 0 ≡ f slot
@@ -38,15 +40,6 @@ pub lack-at : (choosers slots : ℕ) (fills : List ℕ) → slots ≤ 24 → (sl
 unfolding lacksAt lackAt
 lack-at choosers slots fills few slot hs = written-at slots (lackAt choosers fills) few slot hs
 
--- a start's sums with one choice more
-sum-next : (amounts plan : List ℕ) (choice slot : ℕ) → choice < length plan
-    → sumIn amounts (take (choice + 1) plan) slot ≡ sumIn amounts (take choice plan) slot + cond (standsIn plan choice slot) (getD amounts choice 0) 0
-sum-next amounts plan choice slot h =
-    let m : ℕ → ℕ = λ k. cond (standsIn plan k slot) (getD amounts k 0) 0 in
-    let a : sumIn amounts (take (choice + 1) plan) slot ≡ sumBelow (choice + 1) m = start-sum amounts plan (choice + 1) slot (omega arith) in
-    let b : sumIn amounts (take choice plan) slot ≡ sumBelow choice m = start-sum amounts plan choice slot (omega arith) in
-    a ∙ sum-more m choice ∙ ap (λ (x : ℕ). x + m choice) (sym b)
-
 module _ (day : Day) (plan tables : List ℕ) (feasibly : feasible day plan ≡ true) (len : length plan ≡ day .counts .choices)
     (filled : Filled (day .counts) (day .maxs) tables) (few : day .counts .choices ≤ 64) (held : day .counts .choosers ≤ 200)
     (choice : ℕ) (fills : List ℕ) (domain : ℕ) (inside : choice < day .counts .choices)
@@ -58,50 +51,60 @@ module _ (day : Day) (plan tables : List ℕ) (feasibly : feasible day plan ≡ 
   from = choice + 1
 
   abbrev spare : ℕ
-  spare = day .counts .choices - (choice + 1)
+  spare = weightAfter (weightAt tables) (day .counts .choices) (choice + 1)
 
   abbrev lacks : List ℕ
   lacks = lacksAt (day .counts .choosers) (day .counts .slots) fills
 
   abbrev need : ℕ
-  need = needOf (entryAt tables) (day .counts .slots) 0 (choice + 1) (lacksAt (day .counts .choosers) (day .counts .slots) fills)
+  need = needOf (entryAt tables) (day .counts .slots) 1 (choice + 1) (lacksAt (day .counts .choosers) (day .counts .slots) fills)
 
   -- what a slot's lack weighs once the choice stands at its place
   abbrev after : ℕ → ℕ
-  after slot = entryAt tables 0 (choice + 1) (getD (lacksAt (day .counts .choosers) (day .counts .slots) fills) slot 0 - cond (standsIn plan choice slot) (getD (day .maxs) choice 0) 0)
+  after slot = entryAt tables 1 (choice + 1) (getD (lacksAt (day .counts .choosers) (day .counts .slots) fills) slot 0 - cond (standsIn plan choice slot) (getD (day .maxs) choice 0) 0)
 
   module _ (thin : day .counts .slots ≤ 24) where
-    -- the lacks of the start after the choice weigh no more than the choices after it
+    -- what a slot lacks once the choice stands at its place, the choices after it fill
+    abbrev rest : ℕ → ℕ
+    rest slot = getD lacks slot 0 - cond (standsIn plan choice slot) (getD (day .maxs) choice 0) 0
+
+    rest-filled : (slot : ℕ) → slot < day .counts .slots
+        → rest slot ≤ sumFrom from (day .counts .choices - from) λ k. cond (standsIn plan k slot) (getD (day .maxs) k 0) 0
+    unfolding sumIn sumUpTo
+    rest-filled slot hs =
+        let count : ℕ = day .counts .choices - from in
+        let m : ℕ → ℕ = λ k. cond (standsIn plan k slot) (getD (day .maxs) k 0) 0 in
+        let q : from + count ≡ length plan = omega (arith, len, inside) in
+        let all : day .counts .choosers ≤ sumBelow (length plan) m = (feasible-means day plan feasibly) .maximums slot hs in
+        let j : sumBelow (length plan) m ≡ sumBelow from m + sumFrom from count m = ap (λ (x : ℕ). sumBelow x m) (sym q) ∙ sum-join from count m in
+        let b : sumIn (day .maxs) (take choice plan) slot ≡ sumBelow choice m = start-sum (day .maxs) plan choice slot (omega (arith, len, inside)) in
+        let a : getD lacks slot 0 ≡ day .counts .choosers - getD fills slot 0 = lack-at (day .counts .choosers) (day .counts .slots) fills thin slot hs in
+        omega (arith, all, j, sum-more m choice, b, a, sums slot)
+
+    -- so these lacks weigh no more than the choices after
     after-fits : sumBelow (day .counts .slots) after ≤ spare
+    unfolding weightAfter leastOf
     after-fits =
         let slots : ℕ = day .counts .slots in
-        let choosers : ℕ = day .counts .choosers in
-        let sum : ℕ → ℕ = λ slot. sumIn (day .maxs) (take (choice + 1) plan) slot in
-        let next : List ℕ = written slots 0 sum (replicate 24 0) in
-        let g : ℕ → ℕ = λ slot. entryAt tables 0 from (choosers - getD next slot 0) in
-        let safe : leb (sumBelow slots g) spare ≡ true =
-        enough-need (entryAt tables) slots choosers (day .counts .choices) from next (sumBelow slots g) thin held few (omega arith) refl
-        ∙ enough-filled (day .counts) (day .maxs) tables filled few held slots from next (omega arith)
-        ∙ enough-safe (weightAt tables) (filled .ones) day plan feasibly len from next (omega arith) (λ slot hs. written-at slots sum thin slot hs) in
-        let same : sumBelow slots after ≡ sumBelow slots g =
-        sum-ext slots after g λ slot hs. ap (λ (x : ℕ). entryAt tables 0 from x) (lacks-after slot hs (written-at slots sum thin slot hs)) in
-        omega (arith, leb-true (sumBelow slots g) spare safe, same)
+        let count : ℕ = day .counts .choices - from in
+        let w : ℕ → ℕ = weightAt tables 1 in
+        let g : ℕ → ℕ = λ slot. least w (λ k. getD (day .maxs) k 0) from count (rest slot) in
+        let same : sumBelow slots after ≡ sumBelow slots g = sum-ext slots after g λ slot hs. entry-is slot hs in
+        let fits : sumBelow slots g ≤ sumFrom from count w =
+        lacks-weigh w (λ k. getD (day .maxs) k 0) (λ k. true) (standsIn plan) (slotOf plan) (stands-only plan) slots from count rest rest-filled in
+        omega (arith, same, fits)
       where
-        lacks-after : (slot : ℕ) → slot < day .counts .slots → {x : ℕ} → x ≡ sumIn (day .maxs) (take (choice + 1) plan) slot
-            → getD lacks slot 0 - cond (standsIn plan choice slot) (getD (day .maxs) choice 0) 0 ≡ day .counts .choosers - x
-        lacks-after slot hs {x} e =
-            let part : ℕ = cond (standsIn plan choice slot) (getD (day .maxs) choice 0) 0 in
+        entry-is : (slot : ℕ) → slot < day .counts .slots
+            → after slot ≡ least (weightAt tables 1) (λ k. getD (day .maxs) k 0) from (day .counts .choices - from) (rest slot)
+        entry-is slot hs =
             let a : getD lacks slot 0 ≡ day .counts .choosers - getD fills slot 0 = lack-at (day .counts .choosers) (day .counts .slots) fills thin slot hs in
-            let b : sumIn (day .maxs) (take (choice + 1) plan) slot ≡ sumIn (day .maxs) (take choice plan) slot + part =
-            sum-next (day .maxs) plan choice slot (omega (arith, len)) in
-            let c : getD fills slot 0 ≡ sumIn (day .maxs) (take choice plan) slot = sums slot in
-            omega (arith, a, b, c, e)
+            entry-least (day .counts) (day .maxs) tables filled few held 1 from (rest slot) (omega arith) (omega (arith, inside)) (omega (arith, a))
 
     -- a slot's lack where the choice doesn't stand
-    after-same : (slot : ℕ) → standsIn plan choice slot ≡ false → after slot ≡ entryAt tables 0 from (getD lacks slot 0)
+    after-same : (slot : ℕ) → standsIn plan choice slot ≡ false → after slot ≡ entryAt tables 1 from (getD lacks slot 0)
     after-same slot t =
-        ap (λ (b : Bool). entryAt tables 0 from (getD lacks slot 0 - cond b (getD (day .maxs) choice 0) 0)) t
-        ∙ ap (λ (x : ℕ). entryAt tables 0 from x) (minus-none (getD lacks slot 0))
+        ap (λ (b : Bool). entryAt tables 1 from (getD lacks slot 0 - cond b (getD (day .maxs) choice 0) 0)) t
+        ∙ ap (λ (x : ℕ). entryAt tables 1 from x) (minus-none (getD lacks slot 0))
       where
         minus-none : (x : ℕ) → x - 0 ≡ x
         minus-none x = omega arith
@@ -110,25 +113,25 @@ module _ (day : Day) (plan tables : List ℕ) (feasibly : feasible day plan ≡ 
     omitted-enough : slotOf plan choice ≡ 255 → need ≤ spare
     unfolding needOf
     omitted-enough o =
-        let same : sumBelow (day .counts .slots) after ≡ sumBelow (day .counts .slots) (λ slot. entryAt tables 0 from (getD lacks slot 0)) =
-        sum-ext (day .counts .slots) after (λ slot. entryAt tables 0 from (getD lacks slot 0)) λ slot hs. after-same slot (stands-omitted plan choice slot o) in
+        let same : sumBelow (day .counts .slots) after ≡ sumBelow (day .counts .slots) (λ slot. entryAt tables 1 from (getD lacks slot 0)) =
+        sum-ext (day .counts .slots) after (λ slot. entryAt tables 1 from (getD lacks slot 0)) λ slot hs. after-same slot (stands-omitted plan choice slot o) in
         omega (arith, same, after-fits)
 
     -- a choice in a slot leaves enough for the others
     slot-enough : (p : ℕ) → p < day .counts .slots → slotOf plan choice ≡ p
-        → 0 + entryAt tables 0 from (getD lacks p 0 - most) + need ≤ spare + entryAt tables 0 from (getD lacks p 0)
+        → 0 + entryAt tables 1 from (getD lacks p 0 - most) + need ≤ spare + entryAt tables 1 from (getD lacks p 0)
     unfolding needOf
     slot-enough p hp e =
-        let g : ℕ → ℕ = λ slot. entryAt tables 0 from (getD lacks slot 0) in
+        let g : ℕ → ℕ = λ slot. entryAt tables 1 from (getD lacks slot 0) in
         let c : sumBelow (day .counts .slots) after + g p ≡ sumBelow (day .counts .slots) g + after p = change-one (day .counts .slots) after g p hp other in
-        let h : after p ≡ entryAt tables 0 from (getD lacks p 0 - most) =
-        ap (λ (b : Bool). entryAt tables 0 from (getD lacks p 0 - cond b (getD (day .maxs) choice 0) 0)) (by p ∙ eq-eqb (slotOf plan choice) p e) in
+        let h : after p ≡ entryAt tables 1 from (getD lacks p 0 - most) =
+        ap (λ (b : Bool). entryAt tables 1 from (getD lacks p 0 - cond b (getD (day .maxs) choice 0) 0)) (by p ∙ eq-eqb (slotOf plan choice) p e) in
         omega (arith, c, h, after-fits)
       where
         by : (slot : ℕ) → standsIn plan choice slot ≡ eqb (slotOf plan choice) slot
         by slot = stands-by plan choice slot (λ z. absurd (omega (arith, z, e, hp, thin)))
 
-        other : (slot : ℕ) → slot < day .counts .slots → (slot ≡ p → ⊥) → after slot ≡ entryAt tables 0 from (getD lacks slot 0)
+        other : (slot : ℕ) → slot < day .counts .slots → (slot ≡ p → ⊥) → after slot ≡ entryAt tables 1 from (getD lacks slot 0)
         other slot hs q = after-same slot (by slot ∙ ne-eqb (slotOf plan choice) slot (λ z. q (sym z ∙ e)))
 
     -- so the plan's place stays
@@ -138,19 +141,19 @@ module _ (day : Day) (plan tables : List ℕ) (feasibly : feasible day plan ≡ 
     with-keeps d = go (leb need spare) refl
       where
         kept : spare < need → Placed (day .counts .slots) (day .optional) plan choice
-            → has (setOf (day .counts .slots) (slotKept (entryAt tables) 0 from lacks 0 most need spare domain)) (placeNumber (day .counts .slots) (slotOf plan choice)) ≡ true
+            → has (setOf (day .counts .slots) (slotKept (entryAt tables) 1 from lacks 0 most need spare domain)) (placeNumber (day .counts .slots) (slotOf plan choice)) ≡ true
         kept o (Placed.left-out e x) = absurd (omega (arith, o, omitted-enough e))
         kept o (Placed.scheduled h) =
             let p : ℕ = slotOf plan choice in
             let e : placeNumber (day .counts .slots) p ≡ p = number-in (day .counts .slots) p h in
             let dp : has domain p ≡ true = ap (λ (x : ℕ). has domain x) (sym e) ∙ d in
             rw e
-            (has-set (day .counts .slots) (slotKept (entryAt tables) 0 from lacks 0 most need spare domain) p h
-            ∙ and-both (has domain p) (leb (0 + entryAt tables 0 from (getD lacks p 0 - most) + need) (spare + entryAt tables 0 from (getD lacks p 0))) dp
+            (has-set (day .counts .slots) (slotKept (entryAt tables) 1 from lacks 0 most need spare domain) p h
+            ∙ and-both (has domain p) (leb (0 + entryAt tables 1 from (getD lacks p 0 - most) + need) (spare + entryAt tables 1 from (getD lacks p 0))) dp
             (le-leb _ _ (slot-enough p h refl)))
 
         go : (b : Bool) → leb need spare ≡ b
-            → has (cond b domain (setOf (day .counts .slots) (slotKept (entryAt tables) 0 from lacks 0 most need spare domain))) (placeNumber (day .counts .slots) (slotOf plan choice)) ≡ true
+            → has (cond b domain (setOf (day .counts .slots) (slotKept (entryAt tables) 1 from lacks 0 most need spare domain))) (placeNumber (day .counts .slots) (slotOf plan choice)) ≡ true
         go true u = d
         go false u = kept (leb-false need spare u) ((feasible-means day plan feasibly) .places choice (omega (arith, len)))
 
@@ -165,13 +168,14 @@ pub enough-keeps : (day : Day) (plan tables : List ℕ) → feasible day plan �
     → day .counts .choices ≤ 64 → day .counts .choosers ≤ 200 → (choice : ℕ) (fills : List ℕ) (domain : ℕ) → choice < day .counts .choices
     → ((slot : ℕ) → getD fills slot 0 ≡ sumIn (day .maxs) (take choice plan) slot)
     → has domain (placeNumber (day .counts .slots) (slotOf plan choice)) ≡ true
-    → has (enoughPlaces (entryAt tables) (day .counts) choice (getD (day .maxs) choice 0) fills domain) (placeNumber (day .counts .slots) (slotOf plan choice)) ≡ true
+    → has (enoughPlaces (entryAt tables) (weightAt tables) (day .counts) choice (getD (day .maxs) choice 0) fills domain) (placeNumber (day .counts .slots) (slotOf plan choice)) ≡ true
 unfolding enoughPlaces
 enough-keeps day plan tables f n filled few held choice fills domain inside sums d = go (enoughAsked (day .counts) choice) refl
   where
     go : (b : Bool) → enoughAsked (day .counts) choice ≡ b
         → has (cond b
-        (enoughWith (entryAt tables) (day .counts .slots) (choice + 1) (lacksAt (day .counts .choosers) (day .counts .slots) fills) (getD (day .maxs) choice 0) (day .counts .choices - (choice + 1)) domain)
+        (enoughWith (entryAt tables) (day .counts .slots) (choice + 1) (lacksAt (day .counts .choosers) (day .counts .slots) fills) (getD (day .maxs) choice 0)
+        (weightAfter (weightAt tables) (day .counts .choices) (choice + 1)) domain)
         domain) (placeNumber (day .counts .slots) (slotOf plan choice)) ≡ true
     go true t = with-keeps day plan tables f n filled few held choice fills domain inside sums (asked-slots (day .counts) choice t) d
     go false t = d

@@ -22,7 +22,7 @@ use Rattle.weight_tables.specs.Weights.{least, leastOf, sumFrom}
 use Rattle.weight_tables.specs.Tables.{tablesFit, Filled, entryAt, weightAt, written}
 use Rattle.weight_tables.proofs.WeightLaws.{sum-join, from-ext, below-le, below-add, below-zeros}
 use Rattle.weight_tables.proofs.TableLaws.{written-in, entry-least}
-use Rattle.weight_tables.proofs.EnoughLaws.{stands-only}
+use Rattle.weight_tables.proofs.StartLaws.{stands-only}
 use Rattle.place_sets.specs.Domains.{placeNumber, Within, eachBelow}
 use Rattle.place_sets.proofs.DomainLaws.{number-in, number-out, each-length, each-within}
 use Rattle.table_rule.specs.Figures.{freeOf, firstIn, settledIn, settledSum, lackOf, lacksOf}

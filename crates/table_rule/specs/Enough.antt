@@ -1,4 +1,4 @@
--- The places of the next choice with which the choices after it are still enough for what the slots lack, by table 0, in which each choice weighs at most 1.
+-- The places of the next choice with which the choices after it are still enough for what the slots lack, by table 1.
 use mathlib.Core.Bool.{Bool, _&&_, cond}
 use mathlib.Core.List.{List}
 use Prim.Native.Nat.{ℕ, _+_, _-_}
@@ -6,6 +6,7 @@ use lib.Dec.{ltb, leb}
 use lib.ListN.{getD, replicate}
 use Rattle.constraint.specs.declared.check.Counts.{Counts}
 use Rattle.choice_sets.specs.Sets.{setOf}
+use Rattle.weight_tables.specs.Weights.{sumFrom}
 use Rattle.weight_tables.specs.Tables.{written}
 use Rattle.table_rule.specs.Rule.{needOf, slotKept}
 
@@ -17,19 +18,24 @@ lackAt choosers fills slot = choosers - getD fills slot 0
 unfoldable pub lacksAt : ℕ → ℕ → List ℕ → List ℕ
 lacksAt choosers slots fills = written slots 0 (lackAt choosers fills) (replicate 24 0)
 
+-- what the choices from one on weigh together in table 1
+unfoldable pub weightAfter : (ℕ → ℕ → ℕ) → ℕ → ℕ → ℕ
+weightAfter weight choices from = sumFrom from (choices - from) (weight 1)
+
 -- all places if the choices after are enough without this one, else the slots in which this one leaves enough for the others
 unfoldable pub enoughWith : (ℕ → ℕ → ℕ → ℕ) → ℕ → ℕ → List ℕ → ℕ → ℕ → ℕ → ℕ
 enoughWith entry slots from lacks most spare domain =
-    cond (leb (needOf entry slots 0 from lacks) spare) domain
-    (setOf slots (slotKept entry 0 from lacks 0 most (needOf entry slots 0 from lacks) spare domain))
+    cond (leb (needOf entry slots 1 from lacks) spare) domain
+    (setOf slots (slotKept entry 1 from lacks 0 most (needOf entry slots 1 from lacks) spare domain))
 
 -- the days that the tables hold, and a choice of the day
 unfoldable pub enoughAsked : Counts → ℕ → Bool
 enoughAsked counts choice = leb (counts .slots) 24 && (leb (counts .choosers) 200 && (leb (counts .choices) 64 && ltb choice (counts .choices)))
 
 -- what the next choice keeps of its places; of a day that the tables don't hold all
-unfoldable pub enoughPlaces : (ℕ → ℕ → ℕ → ℕ) → Counts → ℕ → ℕ → List ℕ → ℕ → ℕ
-enoughPlaces entry counts choice most fills domain =
+unfoldable pub enoughPlaces : (ℕ → ℕ → ℕ → ℕ) → (ℕ → ℕ → ℕ) → Counts → ℕ → ℕ → List ℕ → ℕ → ℕ
+enoughPlaces entry weight counts choice most fills domain =
     cond (enoughAsked counts choice)
-    (enoughWith entry (counts .slots) (choice + 1) (lacksAt (counts .choosers) (counts .slots) fills) most (counts .choices - (choice + 1)) domain)
+    (enoughWith entry (counts .slots) (choice + 1) (lacksAt (counts .choosers) (counts .slots) fills) most
+    (weightAfter weight (counts .choices) (choice + 1)) domain)
     domain

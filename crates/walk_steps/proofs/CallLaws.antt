@@ -15,6 +15,13 @@ use Rattle.walk_steps.specs.Sight.{eventsFrom}
 use Rattle.walk_steps.specs.Walks.{Ready, Walked}
 use Rattle.walk_steps.proofs.SumsLaws.{none-sums}
 
+-- from a choice to what is open to it, and from there to a place
+pub to-open : (t size choice : ℕ) → (size - choice) * 32 + 31 ≡ t → (size - choice) * 32 + 30 < t
+to-open t size choice e = omega arith
+
+pub open-place : (t size choice left slots : ℕ) → (size - choice) * 32 + 30 ≡ t → left ≤ slots + 1 → slots ≤ 24 → (size - choice) * 32 + left < t
+open-place t size choice left slots e h few = omega arith
+
 module _ (day : Day) (first room : ℕ) (buffer : List ℕ) (j : Judged day room buffer) (plan sums fills : List ℕ) (p : length plan ≡ day .counts .choices)
     (e : sums ≡ replicate 24 0) (f : fills ≡ replicate 24 0) where
   -- it starts with no choice placed and all sums 0

@@ -76,14 +76,14 @@ pub within-in : (slots choosers : ℕ) (mins optional sums : List ℕ) (domain c
 within-in slots choosers mins optional sums domain choice few fits left h =
     next-within slots domain left few h ∙ has-in slots choosers mins optional sums domain choice few fits left h
 
-pub takes-next : (day : Day) (choice left : ℕ) (sums domains : List ℕ) {next : ℕ} → left ≤ day .counts .slots + 1
-    → AllFit (day .counts .slots) (day .counts .choosers) (day .mins) (day .optional) sums (getD domains choice 0) choice
-    → next ≡ nextIn (day .counts .slots) (day .counts .choosers) (day .mins) (day .optional) sums (getD domains choice 0) choice left → (next ≡ 0 → ⊥) → Takes day choice next sums domains
-takes-next day choice left sums domains {next} h fits e n =
-    let w = in-within (day .counts .slots) (day .counts .choosers) (day .mins) (day .optional) sums (getD domains choice 0) choice left in
+pub takes-next : (day : Day) (choice left : ℕ) (sums : List ℕ) (opened : ℕ) {next : ℕ} → left ≤ day .counts .slots + 1
+    → AllFit (day .counts .slots) (day .counts .choosers) (day .mins) (day .optional) sums opened choice
+    → next ≡ nextIn (day .counts .slots) (day .counts .choosers) (day .mins) (day .optional) sums opened choice left → (next ≡ 0 → ⊥) → Takes day choice opened next sums
+takes-next day choice left sums opened {next} h fits e n =
+    let w = in-within (day .counts .slots) (day .counts .choosers) (day .mins) (day .optional) sums opened choice left in
     record {
       some = pos-of-ne-zero n;
       few = omega (arith, w, e);
-      fits = rw e (in-fits (day .counts .slots) (day .counts .choosers) (day .mins) (day .optional) sums (getD domains choice 0) choice left (λ z. n (e ∙ z)));
+      fits = rw e (in-fits (day .counts .slots) (day .counts .choosers) (day .mins) (day .optional) sums opened choice left (λ z. n (e ∙ z)));
       all-fit = fits;
     }

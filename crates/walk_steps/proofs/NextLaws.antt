@@ -7,7 +7,12 @@ use native.Mathlib.Omega.{arith}
 use borrow.Author.Tests.{le-leb, lt-leb}
 use lib.Count.{under, trailingZeros}
 use lib.Dec.{eqb, leb}
+use lib.ListN.{length, take, drop, length-drop}
+use lib.Seq.{take-all}
 use lib.Pow.{shr-shr}
+use mathlib.Core.List.{List}
+use Rattle.constraint.specs.declared.check.Counts.{Counts}
+use Rattle.look_ahead.specs.Look.{openedAt}
 use Rattle.choice_sets.specs.Sets.{has}
 use Rattle.walk_steps.specs.Sight.{nextHas, nextWithin}
 
@@ -94,3 +99,14 @@ module _ (slots domain left : ℕ) where
   -- the first member of what is left
   pub next-found : slots ≤ 24 → left ≤ slots + 1 → {next : ℕ} → next ≡ left - trailingZeros 64 (domain / 2 ^ (slots + 1 - left)) → next ≡ nextWithin slots domain left
   next-found few h n = n ∙ sym (next-within few h ∙ next-zeros slots domain left h few)
+
+-- what is open by the rows in front, by how many they are
+pub opened-front : (counts : Counts) (mins maxs optional rows tables plan : List ℕ) (choice : ℕ) (sums fills : List ℕ) (domain : ℕ) {front decided places : ℕ} → front ≡ decided
+    → places ≡ openedAt counts mins maxs optional (take front rows) tables plan choice sums fills domain
+    → places ≡ openedAt counts mins maxs optional (take decided rows) tables plan choice sums fills domain
+opened-front counts mins maxs optional rows tables plan choice sums fills domain e p =
+    p ∙ ap (λ (n : ℕ). openedAt counts mins maxs optional (take n rows) tables plan choice sums fills domain) e
+
+-- the rest of a list from a place on
+pub rest-whole : (l : List ℕ) (n : ℕ) → n ≤ length l → take (length l - n) (drop n l) ≡ drop n l
+rest-whole l n h = take-all (length l - n) (drop n l) (rw length-drop (omega arith))

@@ -1,6 +1,7 @@
 -- The walk: a law for each way through its functions.
 use mathlib.Core.Path.{_≡_, refl, sym, ap, _∙_}
-use mathlib.Core.Bool.{Bool, true, false, _&&_, cond}
+use mathlib.Core.Bool.{Bool, true, false, _&&_, _||_, cond}
+use mathlib.Core.Logic.{_⊎_, inl, inr}
 use mathlib.Core.List.{List, [], _∷_, _++_, append-nil, map, flatMap}
 use Prim.Native.Nat.{ℕ, zero, suc, _+_, _-_, _≤_, _<_, _^_}
 use native.Mathlib.Nat.{pos-of-ne-zero}
@@ -8,30 +9,42 @@ use native.Mathlib.Numerals.{add-one}
 use native.Mathlib.Omega.{arith}
 use borrow.Author.Tests.{lt-ltb, le-ltb, ltb-true}
 use lib.Arith.{lt-of-le-ne}
-use lib.Dec.{ltb}
-use lib.ListN.{length, getD, set, take, length-set}
+use lib.Dec.{ltb, leb}
+use lib.ListN.{length, getD, set, take, drop, length-set}
 use native.Mathlib.Decide.{ℕ-discrete}
 use lib.Seq.{take-length, length-take-le, getD-set-same, getD-set-other, set-set, set-getD}
+use Rattle.lists.specs.Below.{allBelow}
+use Rattle.lists.proofs.Below.{all-each, and-left, and-right}
+use Rattle.lists.proofs.Keep.{flatMap-ext}
 use Rattle.choice_sets.specs.Sets.{has}
 use Rattle.scheduling.specs.Day.{Day}
-use Rattle.scheduling.specs.Feasible.{feasible}
+use Rattle.scheduling.specs.Plan.{slotOf}
+use Rattle.scheduling.specs.Rows.{keepsRows}
+use Rattle.scheduling.specs.Feasible.{omissionAllowed, placeAllowed, placesAllowed, slotFits, feasible}
 use Rattle.scheduling.specs.steps.Sums.{Sums}
 use Rattle.listing_nodes.specs.Placements.{places, isNode}
 use Rattle.listing_nodes.specs.steps.Walk.{placesFrom, placeOf, placeFits, sumsWith, sumsWithout, goesTo, sumsTo, ifFeasible, putPlans}
 use Rattle.listing_nodes.specs.steps.Runs.{Walks, Shaped, Added}
 use Rattle.listing_nodes.proofs.PlaceLaws.{places-start, places-next, places-last, walks-next, walks-taken}
+use Rattle.listing_nodes.proofs.StartLaws.{node-facts}
 use Rattle.listing_nodes.proofs.ListLaws.{start-length, next-start, start-kept, shaped-kept}
 use Rattle.listing_nodes.proofs.WholeLaws.{Reached, reached-next}
+use Rattle.plan_rows.proofs.PlanLaws.{omission-is}
 use Rattle.listing_starts.specs.steps.Starts.{fullPasses, totalWith, pageWith}
 use Rattle.listing_starts.proofs.FullLaws.{node-added}
 use Rattle.alive_starts.specs.Alive.{Event, visit, plan, events, plansIn, visitsIn}
 use Rattle.alive_starts.specs.Run.{Standing, standing, run, goesOn}
 use Rattle.alive_starts.proofs.RunLaws.{run-stopped, run-append, run-out, run-visit, run-plan, Ran, ran}
 use Rattle.alive_starts.proofs.Visits.{plans-cost-turns}
+use Rattle.alive_starts.proofs.SameEvents.{Alike, events-same}
 use Rattle.place_sets.specs.Domains.{placeNumber}
-use Rattle.look_ahead.specs.Look.{seenAt}
-use Rattle.look_ahead.proofs.LookLaws.{seen-start, seen-open}
-use Rattle.walk_steps.specs.Sight.{carried, seen, mayTake, nextIn, nextWithin, eyesOf, eventsFrom, eventsAt, eventsLeft}
+use Rattle.place_sets.proofs.DomainLaws.{number-le}
+use Rattle.weight_tables.specs.Tables.{entryAt, weightAt}
+use Rattle.open_places.specs.Open.{openPlaces}
+use Rattle.decided_rows.proofs.ExactLaws.{rows-exact, front-stays, rows-split, rowsLeave-start}
+use Rattle.look_ahead.specs.Look.{nearEnd, lookedAhead, openedAt}
+use Rattle.look_ahead.proofs.LookLaws.{looked-start, seen-near, seen-far, opened-fits, opened-left, place-back}
+use Rattle.walk_steps.specs.Sight.{carried, withRows, decidedWith, afterChoice, seen, openTo, mayTake, nextIn, nextWithin, eyesOf, eventsFrom, eventsAt, eventsLeft, eventsSeen}
 use Rattle.walk_steps.specs.Walks.{Filled, Ready, Walked, AllFit, Takes}
 use Rattle.walk_steps.proofs.InLaws.{in-within, within-in, takes-next}
 use Rattle.walk_steps.proofs.SumsLaws.{with-sums}
@@ -77,10 +90,10 @@ module _ (slots : ℕ) (amounts : List ℕ) (choice : ℕ) (fills : List ℕ) (f
 
 -- ---- the events, by the code's numbers
 
-module _ (day : Day) (tables : List ℕ) (n : ℕ) (start sums fills domains : List ℕ) where
+module _ (day : Day) (tables : List ℕ) (n : ℕ) (start sums fills domains : List ℕ) (opened : ℕ) where
   -- the last so many places, and those from a slot on
   left-past : (left : ℕ) → left ≤ day .counts .slots
-      → eventsLeft day tables n start sums fills domains (suc left) ≡ flatMap (eventsAt day tables n start sums fills domains) (placesFrom (day .counts .slots) (day .counts .slots - left))
+      → eventsLeft day tables n start sums fills domains opened (suc left) ≡ flatMap (eventsAt day tables n start sums fills domains opened) (placesFrom (day .counts .slots) (day .counts .slots - left))
   unfolding eventsLeft placeOf flatMap
   left-past zero h =
       let z : day .counts .slots - 0 ≡ day .counts .slots = omega arith in
@@ -89,12 +102,12 @@ module _ (day : Day) (tables : List ℕ) (n : ℕ) (start sums fills domains : L
       let k : day .counts .slots - suc left < day .counts .slots = omega arith in
       let e : day .counts .slots - suc left + 1 ≡ day .counts .slots - left = omega arith in
       rw (places-next (day .counts .slots) (day .counts .slots - suc left) k, lt-ltb (day .counts .slots - suc left) (day .counts .slots) k, e)
-      (ap (λ (l : List Event). eventsAt day tables n start sums fills domains (day .counts .slots - suc left) ++ l) (left-past left (omega arith)))
+      (ap (λ (l : List Event). eventsAt day tables n start sums fills domains opened (day .counts .slots - suc left) ++ l) (left-past left (omega arith)))
 
   -- one place, and those after it
   left-next : (left : ℕ) → 0 < left
-      → eventsLeft day tables n start sums fills domains left
-      ≡ eventsAt day tables n start sums fills domains (placeOf (day .counts .slots) (day .counts .slots + 1 - left)) ++ eventsLeft day tables n start sums fills domains (left - 1)
+      → eventsLeft day tables n start sums fills domains opened left
+      ≡ eventsAt day tables n start sums fills domains opened (placeOf (day .counts .slots) (day .counts .slots + 1 - left)) ++ eventsLeft day tables n start sums fills domains opened (left - 1)
   unfolding eventsLeft
   left-next zero h = absurd (omega arith)
   left-next (suc left) h =
@@ -104,41 +117,114 @@ module _ (day : Day) (tables : List ℕ) (n : ℕ) (start sums fills domains : L
 
   module _ {choice : ℕ} (at : length start ≡ choice) where
     -- a place that the choice takes
-    events-taken : (place : ℕ) → mayTake (day .counts .slots) (day .counts .choosers) (day .mins) (day .optional) sums (getD domains choice 0) choice place ≡ true
-        → eventsAt day tables n start sums fills domains place
+    events-taken : (place : ℕ) → mayTake (day .counts .slots) (day .counts .choosers) (day .mins) (day .optional) sums opened choice place ≡ true
+        → eventsAt day tables n start sums fills domains opened place
         ≡ eventsFrom day tables n (start ++ (place ∷ [])) (sumsWith (day .counts .slots) (day .mins) sums choice place) (sumsWith (day .counts .slots) (day .maxs) fills choice place) domains
     unfolding eventsAt
     events-taken place t = rw (at, t)
 
     -- those before the next one that it may take add nothing
     left-in : (left : ℕ)
-        → eventsLeft day tables n start sums fills domains (nextIn (day .counts .slots) (day .counts .choosers) (day .mins) (day .optional) sums (getD domains choice 0) choice left) ≡ eventsLeft day tables n start sums fills domains left
+        → eventsLeft day tables n start sums fills domains opened (nextIn (day .counts .slots) (day .counts .choosers) (day .mins) (day .optional) sums opened choice left) ≡ eventsLeft day tables n start sums fills domains opened left
     unfolding eventsLeft nextIn eventsAt
     left-in zero = refl
-    left-in (suc left) = go (mayTake (day .counts .slots) (day .counts .choosers) (day .mins) (day .optional) sums (getD domains choice 0) choice (placeOf (day .counts .slots) (day .counts .slots - left))) refl (left-in left)
+    left-in (suc left) = go (mayTake (day .counts .slots) (day .counts .choosers) (day .mins) (day .optional) sums opened choice (placeOf (day .counts .slots) (day .counts .slots - left))) refl (left-in left)
       where
-        go : (b : Bool) → mayTake (day .counts .slots) (day .counts .choosers) (day .mins) (day .optional) sums (getD domains choice 0) choice (placeOf (day .counts .slots) (day .counts .slots - left)) ≡ b
-            → eventsLeft day tables n start sums fills domains (nextIn (day .counts .slots) (day .counts .choosers) (day .mins) (day .optional) sums (getD domains choice 0) choice left) ≡ eventsLeft day tables n start sums fills domains left
-            → eventsLeft day tables n start sums fills domains (cond b (suc left) (nextIn (day .counts .slots) (day .counts .choosers) (day .mins) (day .optional) sums (getD domains choice 0) choice left)) ≡ eventsLeft day tables n start sums fills domains (suc left)
+        go : (b : Bool) → mayTake (day .counts .slots) (day .counts .choosers) (day .mins) (day .optional) sums opened choice (placeOf (day .counts .slots) (day .counts .slots - left)) ≡ b
+            → eventsLeft day tables n start sums fills domains opened (nextIn (day .counts .slots) (day .counts .choosers) (day .mins) (day .optional) sums opened choice left) ≡ eventsLeft day tables n start sums fills domains opened left
+            → eventsLeft day tables n start sums fills domains opened (cond b (suc left) (nextIn (day .counts .slots) (day .counts .choosers) (day .mins) (day .optional) sums opened choice left)) ≡ eventsLeft day tables n start sums fills domains opened (suc left)
         go true t ih = refl
         go false t ih = ih ∙ rw (at, t)
 
-module _ (day : Day) (tables : List ℕ) (start sums fills domains : List ℕ) where
-  -- what comes after the visit of a start
-  unfoldable bodyOf : ℕ → List Event
-  bodyOf zero = map plan (ifFeasible day start)
-  bodyOf (suc n) = eventsLeft day tables n start sums fills (seen day tables start sums fills domains) (day .counts .slots + 1)
+-- ---- the rows that the next choice decides
 
-  events-are : (n : ℕ) → eventsFrom day tables n start sums fills domains ≡ visit ∷ bodyOf n
-  unfolding eventsFrom events eyesOf eventsAt bodyOf
-  events-are zero = refl
-  events-are (suc n) =
+-- each choice of a node stands in a slot or is omitted
+pub node-place : (day : Day) (start : List ℕ) → isNode day start ≡ true → (i : ℕ) → i < length start → (slotOf start i < day .counts .slots) ⊎ (slotOf start i ≡ 255)
+unfolding placesAllowed placeAllowed
+node-place day start node i h =
+    place-of (ltb (slotOf start i) (day .counts .slots)) refl
+    (all-each (length start) (placeAllowed (day .counts .slots) (day .optional) start) (node-facts day start node .allowed) i h)
+  where
+    place-of : (b : Bool) → ltb (slotOf start i) (day .counts .slots) ≡ b → (b || omissionAllowed (slotOf start i) (getD (day .optional) i 0)) ≡ true
+        → (slotOf start i < day .counts .slots) ⊎ (slotOf start i ≡ 255)
+    place-of true t a = inl (ltb-true (slotOf start i) (day .counts .slots) t)
+    place-of false t a = inr (omission-is (slotOf start i) (getD (day .optional) i 0) a)
+
+-- a place that fits is a slot or omission
+fits-place : (slots choosers : ℕ) (mins optional sums : List ℕ) (choice place : ℕ) → placeFits slots choosers mins optional sums choice place ≡ true → (place < slots) ⊎ (place ≡ 255)
+unfolding placeFits
+fits-place slots choosers mins optional sums choice place t = go (ltb place slots) refl t
+  where
+    go : (b : Bool) → ltb place slots ≡ b → cond b (leb (getD sums place 0 + getD mins choice 0) choosers) (omissionAllowed place (getD optional choice 0)) ≡ true → (place < slots) ⊎ (place ≡ 255)
+    go true l f = inl (ltb-true place slots l)
+    go false l f = inr (omission-is place (getD optional choice 0) f)
+
+module _ (day : Day) (tables start sums fills domains : List ℕ) (few : day .counts .slots ≤ 24) (node : isNode day start ≡ true) (short : length start < 64) where
+  -- a place that is open keeps the rows that are decided there
+  pub decided-kept : (place : ℕ) → mayTake (day .counts .slots) (day .counts .choosers) (day .mins) (day .optional) sums (openTo day tables start sums fills domains) (length start) place ≡ true
+      → keepsRows (start ++ (place ∷ [])) (take (decidedWith day (length start)) (day .rows)) ≡ true
+  unfolding mayTake openTo
+  decided-kept place t =
+      let slots = day .counts .slots in
+      let at = placeNumber slots place in
+      let fits = and-left (placeFits slots (day .counts .choosers) (day .mins) (day .optional) sums (length start) place) (has (openTo day tables start sums fills domains) at) t in
+      let back : placeOf slots at ≡ place = place-back slots place few (fits-place slots (day .counts .choosers) (day .mins) (day .optional) sums (length start) place fits) in
+      let left = opened-left (day .counts) (day .mins) (day .maxs) (day .optional) (take (decidedWith day (length start)) (day .rows)) tables start (length start) sums fills (getD domains (length start) 0) few at (number-le slots place)
+      (and-right (placeFits slots (day .counts .choosers) (day .mins) (day .optional) sums (length start) place) (has (openTo day tables start sums fills domains) at) t) in
+      ap (λ (p : ℕ). keepsRows (start ++ (p ∷ [])) (take (decidedWith day (length start)) (day .rows))) (sym back)
+      ∙ and-right (has (getD domains (length start) 0) at) (keepsRows (start ++ (placeOf slots at ∷ [])) (take (decidedWith day (length start)) (day .rows)))
+      (sym (rows-exact slots start (day .rows) (getD domains (length start) 0) at few (number-le slots place) short (node-place day start node)) ∙ left)
+
+  -- so they can be left behind
+  pub decided-alike : (place : ℕ) → mayTake (day .counts .slots) (day .counts .choosers) (day .mins) (day .optional) sums (openTo day tables start sums fills domains) (length start) place ≡ true
+      → Alike day (afterChoice day (length start)) (start ++ (place ∷ []))
+  unfolding Alike feasible
+  decided-alike place t rest =
+      let plan = (start ++ (place ∷ [])) ++ rest in
+      let front = decidedWith day (length start) in
+      let h : keepsRows plan (take front (day .rows)) ≡ true = front-stays (day .counts .slots) start place rest (day .rows) short ∙ decided-kept place t in
+      ap (λ (b : Bool). placesAllowed (day .counts .slots) (day .optional) plan && allBelow (day .counts .slots) (slotFits (day .counts .choosers) (day .mins) (day .maxs) plan) && b)
+      (rows-split plan front (day .rows) ∙ ap (λ (b : Bool). b && keepsRows plan (drop front (day .rows))) h)
+
+-- what comes after the visit of a start
+unfoldable bodyOf : Day → List ℕ → List ℕ → List ℕ → List ℕ → List ℕ → ℕ → List Event
+bodyOf day tables start sums fills domains zero = map plan (ifFeasible day start)
+bodyOf day tables start sums fills domains (suc n) = eventsSeen day tables n start sums fills (seen day tables start domains)
+
+module _ (day : Day) (tables : List ℕ) (start sums fills domains : List ℕ) (few : day .counts .slots ≤ 24) (node : isNode day start ≡ true) where
+  events-are : (n : ℕ) → (0 < n → length start < 64) → eventsFrom day tables n start sums fills domains ≡ visit ∷ bodyOf day tables start sums fills domains n
+  unfolding eventsFrom events eyesOf eventsAt bodyOf eventsSeen
+  events-are zero short = refl
+  events-are (suc n) short =
       let z : day .counts .slots - day .counts .slots ≡ 0 = omega arith in
+      let sees = seen day tables start domains in
+      let opened = openTo day tables start sums fills sees in
+      let after = afterChoice day (length start) in
       ap (λ (l : List Event). visit ∷ l)
-      (sym
+      (flatMap-ext
+      (λ place. cond (mayTake (day .counts .slots) (day .counts .choosers) (day .mins) (day .optional) sums opened (length start) place)
+      (events day (eyesOf day tables) n (start ++ (place ∷ [])) (carried (sumsWith (day .counts .slots) (day .mins) sums (length start) place) (sumsWith (day .counts .slots) (day .maxs) fills (length start) place) sees (after .rows))) [])
+      (eventsAt after tables n start sums fills sees opened) (places (day .counts .slots))
+      (λ place. at-place place (mayTake (day .counts .slots) (day .counts .choosers) (day .mins) (day .optional) sums opened (length start) place) refl)
+      ∙ sym
       (rw (add-one (day .counts .slots))
-      (left-past day tables n start sums fills (seen day tables start sums fills domains) (day .counts .slots) (omega arith)
+      (left-past after tables n start sums fills sees opened (day .counts .slots) (omega arith)
       ∙ rw (z, places-start (day .counts .slots)))))
+    where
+      at-place : (place : ℕ) (b : Bool) → mayTake (day .counts .slots) (day .counts .choosers) (day .mins) (day .optional) sums (openTo day tables start sums fills (seen day tables start domains)) (length start) place ≡ b
+          → cond b
+          (events day (eyesOf day tables) n (start ++ (place ∷ []))
+          (carried (sumsWith (day .counts .slots) (day .mins) sums (length start) place) (sumsWith (day .counts .slots) (day .maxs) fills (length start) place) (seen day tables start domains) (afterChoice day (length start) .rows)))
+          []
+          ≡ cond b
+          (events (afterChoice day (length start)) (eyesOf day tables) n (start ++ (place ∷ []))
+          (carried (sumsWith (day .counts .slots) (day .mins) sums (length start) place) (sumsWith (day .counts .slots) (day .maxs) fills (length start) place) (seen day tables start domains) (afterChoice day (length start) .rows)))
+          []
+      at-place place true t =
+          events-same day (afterChoice day (length start)) (eyesOf day tables) refl n (start ++ (place ∷ []))
+          (carried (sumsWith (day .counts .slots) (day .mins) sums (length start) place) (sumsWith (day .counts .slots) (day .maxs) fills (length start) place) (seen day tables start domains) (afterChoice day (length start) .rows))
+          (decided-alike day tables start sums fills (seen day tables start domains) few node (short (omega arith)) place t)
+      at-place place false t = refl
 
 -- a full start: the plan that the plan check passes is counted
 run-full : (day : Day) (first room turns : ℕ) (p : List ℕ) {met met' : ℕ} {buffer buffer' : List ℕ} → goesOn first room met ≡ true
@@ -160,9 +246,13 @@ run-full day first room turns p {met} {met'} {buffer} {buffer'} o a = go (feasib
 abbrev hereOf : Day → List ℕ → ℕ → List ℕ → List ℕ → List ℕ → List ℕ → List Event
 hereOf day tables choice p sums fills domains = eventsFrom day tables (length p - choice) (take choice p) sums fills domains
 
--- and at the places left
-abbrev leftOf : Day → List ℕ → ℕ → List ℕ → List ℕ → List ℕ → List ℕ → ℕ → List Event
-leftOf day tables choice p sums fills domains left = eventsLeft day tables (length p - (choice + 1)) (take choice p) sums fills domains left
+-- at the places that are open, the domains as they are seen
+abbrev openOf : Day → List ℕ → ℕ → List ℕ → List ℕ → List ℕ → List ℕ → List Event
+openOf day tables choice p sums fills domains = eventsSeen day tables (length p - (choice + 1)) (take choice p) sums fills domains
+
+-- and at the last so many of them
+abbrev leftOf : Day → List ℕ → ℕ → List ℕ → List ℕ → List ℕ → List ℕ → ℕ → ℕ → List Event
+leftOf day tables choice p sums fills domains opened left = eventsLeft day tables (length p - (choice + 1)) (take choice p) sums fills domains opened left
 
 module _ {day : Day} {first room choice : ℕ} {p sums fills : List ℕ} {turns met : ℕ} {buffer : List ℕ} (tables domains : List ℕ)
     (l : Ready day first room choice choice p sums fills turns met buffer) where
@@ -172,6 +262,12 @@ module _ {day : Day} {first room choice : ℕ} {p sums fills : List ℕ} {turns 
   -- a choice has its place among 64
   pub choice-low : (choice ≡ length p → ⊥) → choice < 64
   choice-low m = omega (arith, lt-of-le-ne so-far m, l .shaped .few-choices, l .shaped .plan-fits)
+
+  -- what happens here: the visit, and what comes after it
+  here-are : hereOf day tables choice p sums fills domains ≡ visit ∷ bodyOf day tables (take choice p) sums fills domains (length p - choice)
+  here-are =
+      events-are day tables (take choice p) sums fills domains (l .shaped .few-slots) (l .node) (length p - choice)
+      λ h. omega (arith, h, length-take-le choice p so-far, l .shaped .few-choices, l .shaped .plan-fits)
 
   -- nothing but the standing is changed
   unmoved : {after : Standing} → after ≡ run first room (standing true turns met buffer) (hereOf day tables choice p sums fills domains)
@@ -185,7 +281,7 @@ module _ {day : Day} {first room choice : ℕ} {p sums fills : List ℕ} {turns 
       unmoved
       (sym
       (rw z
-      (ap (run first room (standing true 0 met buffer)) (events-are day tables (take choice p) sums fills domains (length p - choice))
+      (ap (run first room (standing true 0 met buffer)) here-are
       ∙ run-out first room met buffer (bodyOf day tables (take choice p) sums fills domains (length p - choice)))))
 
   module _ (n : turns ≡ 0 → ⊥) where
@@ -197,7 +293,7 @@ module _ {day : Day} {first room choice : ℕ} {p sums fills : List ℕ} {turns 
         ≡ run first room (standing true (turns - 1) met buffer) (bodyOf day tables (take choice p) sums fills domains (length p - choice))
     after-visit =
         let k : turns ≡ suc (turns - 1) = omega (arith, one-turn) in
-        ap (run first room (standing true turns met buffer)) (events-are day tables (take choice p) sums fills domains (length p - choice))
+        ap (run first room (standing true turns met buffer)) here-are
         ∙ ap (λ (t : ℕ). run first room (standing true t met buffer) (visit ∷ bodyOf day tables (take choice p) sums fills domains (length p - choice))) k
         ∙ run-visit first room (turns - 1) met buffer (bodyOf day tables (take choice p) sums fills domains (length p - choice))
 
@@ -237,83 +333,164 @@ module _ {day : Day} {first room choice : ℕ} {p sums fills : List ℕ} {turns 
             same-plan = ap length s;
           }
 
-    -- any other goes on to the places that the choice may take, the domains as they are seen
-    module _ (m : choice ≡ length p → ⊥) {seeing : List ℕ} (v : seeing ≡ seen day tables (take choice p) sums fills domains)
-        {next : ℕ} (h : next ≡ nextWithin (day .counts .slots) (getD seeing choice 0) (day .counts .slots + 1)) where
+    -- any other goes on to the places that are open, the domains as they are seen
+    module _ (m : choice ≡ length p → ⊥) {seeing : List ℕ} (v : seeing ≡ seen day tables (take choice p) domains) where
       before-end : choice < length p
       before-end = lt-of-le-ne so-far m
 
-      -- every place that is seen fits
-      seen-fits : AllFit (day .counts .slots) (day .counts .choosers) (day .mins) (day .optional) sums (getD seeing choice 0) choice
-      unfolding AllFit seen
-      seen-fits = rw (v, length-take-le choice p so-far)
-          (seen-open (day .counts) (day .mins) (day .maxs) (day .optional) (day .rows) tables (take choice p) choice sums fills domains (l .shaped .few-slots) (choice-low m))
-
-      e : next ≡ nextIn (day .counts .slots) (day .counts .choosers) (day .mins) (day .optional) sums (getD seeing choice 0) choice (day .counts .slots + 1)
-      e = h ∙ within-in (day .counts .slots) (day .counts .choosers) (day .mins) (day .optional) sums (getD seeing choice 0) choice (l .shaped .few-slots) seen-fits (day .counts .slots + 1) (omega arith)
-
       on-visit : run first room (standing true turns met buffer) (hereOf day tables choice p sums fills domains)
-          ≡ run first room (standing true (turns - 1) met buffer) (leftOf day tables choice p sums fills seeing next)
+          ≡ run first room (standing true (turns - 1) met buffer) (openOf day tables choice p sums fills seeing)
       unfolding bodyOf
       on-visit =
           let k : length p - choice ≡ suc (length p - (choice + 1)) = omega (arith, before-end) in
           after-visit
           ∙ ap (λ (i : ℕ). run first room (standing true (turns - 1) met buffer) (bodyOf day tables (take choice p) sums fills domains i)) k
-          ∙ ap (λ (d : List ℕ). run first room (standing true (turns - 1) met buffer) (leftOf day tables choice p sums fills d (day .counts .slots + 1))) (sym v)
-          ∙ ap (run first room (standing true (turns - 1) met buffer))
-          (sym
-          (ap (leftOf day tables choice p sums fills seeing) e
-          ∙ left-in day tables (length p - (choice + 1)) (take choice p) sums fills seeing (length-take-le choice p so-far) (day .counts .slots + 1)))
-
-      pub walked-none : next ≡ 0
-          → Walked first room choice (hereOf day tables choice p sums fills domains) p p sums sums fills fills (standing true turns met buffer) (standing true (turns - 1) met buffer)
-      unfolding eventsLeft run
-      walked-none z =
-          unmoved (sym (on-visit ∙ ap (λ (i : ℕ). run first room (standing true (turns - 1) met buffer) (leftOf day tables choice p sums fills seeing i)) z))
-
-      pub on-requires : (next ≡ 0 → ⊥) → Ready day first room (choice + 1) choice p sums fills (turns - 1) met buffer × Takes day choice next sums seeing
-      on-requires k = (
-        record {
-          shaped = l .shaped;
-          walks = walks-next (l .walks) (λ i. m (i ∙ l .shaped .mins-fit ∙ sym (l .shaped .plan-fits)));
-          filled = l .filled;
-          node = l .node;
-          least = l .least;
-          most = l .most;
-          unfinished = l .unfinished;
-          numbers = omega (arith, l .numbers);
-        },
-        takes-next day choice (day .counts .slots + 1) sums seeing (omega arith) seen-fits e k,
-      )
-
-      pub walked-on : {after : Standing} {p' sums' fills' : List ℕ}
-          → Walked first room choice (leftOf day tables choice p sums fills seeing next) p p' sums sums' fills fills' (standing true (turns - 1) met buffer) after
-          → Walked first room choice (hereOf day tables choice p sums fills domains) p p' sums sums' fills fills' (standing true turns met buffer) after
-      walked-on g =
-          record { stands = g .stands ∙ sym on-visit; start = g .start; same-sums = g .same-sums; same-fills = g .same-fills; same-plan = g .same-plan }
+          ∙ ap (λ (d : List ℕ). run first room (standing true (turns - 1) met buffer) (openOf day tables choice p sums fills d)) (sym v)
 
       -- the same of a plan that is lent on the way
       module _ {q : List ℕ} (s : q ≡ p) where
-        pub none-lent : next ≡ 0
-            → Walked first room choice (hereOf day tables choice p sums fills domains) p q sums sums fills fills (standing true turns met buffer) (standing true (turns - 1) met buffer)
-        none-lent z = rw s (walked-none z)
+        pub seen-requires : Ready day first room (choice + 1) choice q sums fills (turns - 1) met buffer
+        seen-requires =
+            rw s
+            (record {
+              shaped = l .shaped;
+              walks = walks-next (l .walks) (λ i. m (i ∙ l .shaped .mins-fit ∙ sym (l .shaped .plan-fits)));
+              filled = l .filled;
+              node = l .node;
+              least = l .least;
+              most = l .most;
+              unfinished = l .unfinished;
+              numbers = omega (arith, l .numbers);
+            })
 
-        pub requires-lent : (next ≡ 0 → ⊥) → Ready day first room (choice + 1) choice q sums fills (turns - 1) met buffer × Takes day choice next sums seeing
-        requires-lent k = rw s (on-requires k)
-
-        pub on-lent : {after : Standing} {p' sums' fills' : List ℕ}
-            → Walked first room choice (leftOf day tables choice q sums fills seeing next) q p' sums sums' fills fills' (standing true (turns - 1) met buffer) after
+        pub walked-seen : {after : Standing} {p' sums' fills' : List ℕ}
+            → Walked first room choice (openOf day tables choice q sums fills seeing) q p' sums sums' fills fills' (standing true (turns - 1) met buffer) after
             → Walked first room choice (hereOf day tables choice p sums fills domains) p p' sums sums' fills fills' (standing true turns met buffer) after
-        on-lent g = walked-on (rw s at g)
+        walked-seen g =
+            let h = rw s at g in
+            record { stands = h .stands ∙ sym on-visit; start = h .start; same-sums = h .same-sums; same-fills = h .same-fills; same-plan = h .same-plan }
 
--- of a plan the places before the choice are seen alone
-pub seen-here : (day : Day) (tables p sums fills domains : List ℕ) (choice : ℕ) {seeing : List ℕ} → choice ≤ length p
-    → seeing ≡ seenAt (day .counts) (day .mins) (day .maxs) (day .optional) (day .rows) tables p choice sums fills domains → seeing ≡ seen day tables (take choice p) sums fills domains
-unfolding seen
-seen-here day tables p sums fills domains choice h v =
-    v
-    ∙ sym (seen-start (day .counts) (day .mins) (day .maxs) (day .optional) (day .rows) tables p choice sums fills domains h)
-    ∙ sym (rw (length-take-le choice p h))
+module _ (day : Day) (tables p domains : List ℕ) (choice : ℕ) (h : choice ≤ length p) where
+  -- of a plan the places before the choice are seen alone: near the end nothing is looked at
+  pub seen-near-here : {b : Bool} → length p ≡ day .counts .choices → b ≡ nearEnd (length p) choice → b ≡ true → domains ≡ seen day tables (take choice p) domains
+  unfolding seen
+  seen-near-here z e t =
+      seen-near (day .counts) (day .mins) (day .maxs) (day .rows) tables (take choice p) choice domains (ap (λ (n : ℕ). nearEnd n choice) (sym z) ∙ sym e ∙ t)
+      ∙ sym (rw (length-take-le choice p h))
+
+  -- before it what the look ahead leaves
+  pub seen-far-here : {b : Bool} {seeing : List ℕ} → length p ≡ day .counts .choices → b ≡ nearEnd (length p) choice → b ≡ false
+      → seeing ≡ lookedAhead (day .counts) (day .mins) (day .maxs) (day .rows) tables p choice domains → seeing ≡ seen day tables (take choice p) domains
+  unfolding seen
+  seen-far-here z e f v =
+      v
+      ∙ sym (looked-start (day .counts) (day .mins) (day .maxs) (day .rows) tables p choice domains h)
+      ∙ seen-far (day .counts) (day .mins) (day .maxs) (day .rows) tables (take choice p) choice domains (ap (λ (n : ℕ). nearEnd n choice) (sym z) ∙ sym e ∙ f)
+      ∙ sym (rw (length-take-le choice p h))
+
+-- ---- the places that are open
+
+module _ {day : Day} {first room choice : ℕ} {p sums fills : List ℕ} {turns met : ℕ} {buffer : List ℕ} (tables domains : List ℕ)
+    (l : Ready day first room (choice + 1) choice p sums fills turns met buffer) where
+  open-within : choice < length p
+  open-within = omega (arith, l .walks .within, l .shaped .mins-fit, l .shaped .plan-fits)
+
+  open-length : length (take choice p) ≡ choice
+  open-length = start-length choice p open-within
+
+  module _ {front opened next : ℕ} (fr : front ≡ decidedWith day choice)
+      (op : opened ≡ openedAt (day .counts) (day .mins) (day .maxs) (day .optional) (take (decidedWith day choice) (day .rows)) tables p choice sums fills (getD domains choice 0))
+      (ne : next ≡ nextWithin (day .counts .slots) opened (day .counts .slots + 1)) where
+    -- of the plan the places before the choice matter alone
+    opened-is : opened ≡ openTo day tables (take choice p) sums fills domains
+    unfolding openTo openedAt
+    opened-is =
+        op
+        ∙ ap (openPlaces (entryAt tables) (weightAt tables) (day .counts) (day .mins) (day .maxs) (day .optional) choice sums fills)
+        (sym (rowsLeave-start (day .counts .slots) choice p (day .rows) (getD domains choice 0)))
+        ∙ sym (rw open-length)
+
+    -- every place that is open fits
+    all-open-fit : AllFit (day .counts .slots) (day .counts .choosers) (day .mins) (day .optional) sums opened choice
+    unfolding AllFit
+    all-open-fit at h t =
+        opened-fits (day .counts) (day .mins) (day .maxs) (day .optional) (take (decidedWith day choice) (day .rows)) tables p choice sums fills (getD domains choice 0) (l .shaped .few-slots) at h
+        (ap (λ (o : ℕ). has o at) (sym op) ∙ t)
+
+    next-is : next ≡ nextIn (day .counts .slots) (day .counts .choosers) (day .mins) (day .optional) sums opened choice (day .counts .slots + 1)
+    next-is = ne ∙ within-in (day .counts .slots) (day .counts .choosers) (day .mins) (day .optional) sums opened choice (l .shaped .few-slots) all-open-fit (day .counts .slots + 1) (omega arith)
+
+    -- those before the first one that it may take add nothing
+    open-events : openOf day tables choice p sums fills domains ≡ leftOf (afterChoice day choice) tables choice p sums fills domains opened next
+    unfolding eventsSeen
+    open-events =
+        ap (λ (c : ℕ). eventsLeft (afterChoice day c) tables (length p - (choice + 1)) (take choice p) sums fills domains (openTo day tables (take choice p) sums fills domains) (day .counts .slots + 1)) open-length
+        ∙ ap (λ (o : ℕ). leftOf (afterChoice day choice) tables choice p sums fills domains o (day .counts .slots + 1)) (sym opened-is)
+        ∙ sym
+        (ap (leftOf (afterChoice day choice) tables choice p sums fills domains opened) next-is
+        ∙ left-in (afterChoice day choice) tables (length p - (choice + 1)) (take choice p) sums fills domains opened open-length (day .counts .slots + 1))
+
+    module _ {q : List ℕ} (s : q ≡ p) where
+      pub none-open : next ≡ 0
+          → Walked first room choice (openOf day tables choice p sums fills domains) p q sums sums fills fills (standing true turns met buffer) (standing true turns met buffer)
+      unfolding eventsLeft run
+      none-open z =
+          rw s
+          (record {
+            stands = sym (ap (run first room (standing true turns met buffer)) (open-events ∙ ap (leftOf (afterChoice day choice) tables choice p sums fills domains opened) z));
+            start = refl;
+            same-sums = refl;
+            same-fills = refl;
+            same-plan = refl;
+          })
+
+      module _ {after : List ℕ} (a : after ≡ drop front (day .rows)) where
+        -- the rows left are those that the choice doesn't decide
+        after-is : withRows day after ≡ afterChoice day choice
+        after-is = ap (withRows day) (a ∙ ap (λ (f : ℕ). drop f (day .rows)) fr)
+
+        pub open-requires : (next ≡ 0 → ⊥)
+            → Ready (withRows day after) first room (choice + 1) choice q sums fills turns met buffer × Takes (withRows day after) choice opened next sums
+        unfolding isNode
+        open-requires k = (
+          rw s
+              (record {
+                shaped =
+                    record {
+                      few-choices = l .shaped .few-choices;
+                      few-slots = l .shaped .few-slots;
+                      mins-fit = l .shaped .mins-fit;
+                      maxs-fit = l .shaped .maxs-fit;
+                      optional-fits = l .shaped .optional-fits;
+                      plan-fits = l .shaped .plan-fits;
+                      buffer-fits = l .shaped .buffer-fits;
+                    };
+                walks = l .walks;
+                filled = l .filled;
+                node = l .node;
+                least = l .least;
+                most = l .most;
+                unfinished = l .unfinished;
+                numbers = l .numbers;
+              }),
+          takes-next (withRows day after) choice (day .counts .slots + 1) sums opened (omega arith) all-open-fit next-is k,
+        )
+
+        pub walked-open : {standing' : Standing} {p' sums' fills' : List ℕ}
+            → Walked first room choice (leftOf (withRows day after) tables choice q sums fills domains opened next) q p' sums sums' fills fills' (standing true turns met buffer) standing'
+            → Walked first room choice (openOf day tables choice p sums fills domains) p p' sums sums' fills fills' (standing true turns met buffer) standing'
+        walked-open g =
+            let h = rw s at g in
+            record {
+              stands =
+                  h .stands
+                  ∙ ap (run first room (standing true turns met buffer))
+                  (ap (λ (d : Day). leftOf d tables choice p sums fills domains opened next) after-is ∙ sym open-events);
+              start = h .start;
+              same-sums = h .same-sums;
+              same-fills = h .same-fills;
+              same-plan = h .same-plan;
+            }
 
 -- ---- a place
 
@@ -325,8 +502,8 @@ both-left false b e = e
 abbrev placeWith : Day → ℕ → ℕ
 placeWith day left = placeOf (day .counts .slots) (day .counts .slots + 1 - left)
 
-module _ (choice left : ℕ) {day : Day} {first room : ℕ} {p sums fills : List ℕ} {turns met : ℕ} {buffer : List ℕ} (tables domains : List ℕ)
-    (l : Ready day first room (choice + 1) choice p sums fills turns met buffer) (o : Takes day choice left sums domains) where
+module _ (choice opened left : ℕ) {day : Day} {first room : ℕ} {p sums fills : List ℕ} {turns met : ℕ} {buffer : List ℕ} (tables domains : List ℕ)
+    (l : Ready day first room (choice + 1) choice p sums fills turns met buffer) (o : Takes day choice opened left sums) where
   pub within-plan : choice < length p
   within-plan = omega (arith, l .walks .within, l .shaped .mins-fit, l .shaped .plan-fits)
 
@@ -336,7 +513,7 @@ module _ (choice left : ℕ) {day : Day} {first room : ℕ} {p sums fills : List
   fits-here : placeFits (day .counts .slots) (day .counts .choosers) (day .mins) (day .optional) sums choice (placeWith day left) ≡ true
   unfolding mayTake
   fits-here =
-      both-left (placeFits (day .counts .slots) (day .counts .choosers) (day .mins) (day .optional) sums choice (placeWith day left)) (has (getD domains choice 0) (placeNumber (day .counts .slots) (placeWith day left)))
+      both-left (placeFits (day .counts .slots) (day .counts .choosers) (day .mins) (day .optional) sums choice (placeWith day left)) (has opened (placeNumber (day .counts .slots) (placeWith day left)))
       (o .fits)
 
   -- what standing there and leaving again ask for
@@ -356,9 +533,9 @@ module _ (choice left : ℕ) {day : Day} {first room : ℕ} {p sums fills : List
       (q-is : sums' ≡ sumsWith (day .counts .slots) (day .mins) sums choice (placeWith day left))
       (f-is : fills' ≡ sumsWith (day .counts .slots) (day .maxs) fills choice (placeWith day left))
       (u : getD (day .maxs) choice 0 < 2 ^ 16) where
-    here-events : eventsAt day tables (length p - (choice + 1)) (take choice p) sums fills domains (placeWith day left) ≡ hereOf day tables (choice + 1) p' sums' fills' domains
+    here-events : eventsAt day tables (length p - (choice + 1)) (take choice p) sums fills domains opened (placeWith day left) ≡ hereOf day tables (choice + 1) p' sums' fills' domains
     here-events =
-        events-taken day tables (length p - (choice + 1)) (take choice p) sums fills domains at-start (placeWith day left) (o .fits)
+        events-taken day tables (length p - (choice + 1)) (take choice p) sums fills domains opened at-start (placeWith day left) (o .fits)
         ∙ sym (rw (p-is, q-is, f-is, length-set p choice (placeWith day left), next-start choice p within-plan (placeWith day left)))
 
     -- one choice more
@@ -412,63 +589,63 @@ module _ (choice left : ℕ) {day : Day} {first room : ℕ} {p sums fills : List
         before = start-kept choice p within-plan (placeWith day left) p₁ (rw p-is at (g .start))
 
         -- the place, and those after it
-        left-run : run first room (standing true turns met buffer) (leftOf day tables choice p sums fills domains left)
-            ≡ run first room (standing r turns₁ met₁ buffer₁) (leftOf day tables choice p sums fills domains (left - 1))
+        left-run : run first room (standing true turns met buffer) (leftOf day tables choice p sums fills domains opened left)
+            ≡ run first room (standing r turns₁ met₁ buffer₁) (leftOf day tables choice p sums fills domains opened (left - 1))
         left-run =
-            ap (run first room (standing true turns met buffer)) (left-next day tables (length p - (choice + 1)) (take choice p) sums fills domains left (o .some))
-            ∙ run-append first room (standing true turns met buffer) (eventsAt day tables (length p - (choice + 1)) (take choice p) sums fills domains (placeWith day left)) (leftOf day tables choice p sums fills domains (left - 1))
-            ∙ ap (λ (s : Standing). run first room s (leftOf day tables choice p sums fills domains (left - 1)))
+            ap (run first room (standing true turns met buffer)) (left-next day tables (length p - (choice + 1)) (take choice p) sums fills domains opened left (o .some))
+            ∙ run-append first room (standing true turns met buffer) (eventsAt day tables (length p - (choice + 1)) (take choice p) sums fills domains opened (placeWith day left)) (leftOf day tables choice p sums fills domains opened (left - 1))
+            ∙ ap (λ (s : Standing). run first room s (leftOf day tables choice p sums fills domains opened (left - 1)))
             (ap (run first room (standing true turns met buffer)) here-events ∙ sym (g .stands))
 
-        moved : {after : Standing} → after ≡ run first room (standing true turns met buffer) (leftOf day tables choice p sums fills domains left)
-            → Walked first room choice (leftOf day tables choice p sums fills domains left) p p₁ sums sums₂ fills fills₂ (standing true turns met buffer) after
+        moved : {after : Standing} → after ≡ run first room (standing true turns met buffer) (leftOf day tables choice p sums fills domains opened left)
+            → Walked first room choice (leftOf day tables choice p sums fills domains opened left) p p₁ sums sums₂ fills fills₂ (standing true turns met buffer) after
         moved k = record { stands = k; start = before; same-sums = sums-back; same-fills = fills-back; same-plan = same }
 
         -- the walk has ended
         pub walked-stopped : r ≡ false
-            → Walked first room choice (leftOf day tables choice p sums fills domains left) p p₁ sums sums₂ fills fills₂ (standing true turns met buffer) (standing false turns₁ met₁ buffer₁)
+            → Walked first room choice (leftOf day tables choice p sums fills domains opened left) p p₁ sums sums₂ fills fills₂ (standing true turns met buffer) (standing false turns₁ met₁ buffer₁)
         walked-stopped f =
             moved
             (ap (λ (c : Bool). standing c turns₁ met₁ buffer₁) (sym f)
-            ∙ sym (left-run ∙ run-stopped first room (standing r turns₁ met₁ buffer₁) (leftOf day tables choice p sums fills domains (left - 1)) f))
+            ∙ sym (left-run ∙ run-stopped first room (standing r turns₁ met₁ buffer₁) (leftOf day tables choice p sums fills domains opened (left - 1)) f))
 
         -- or goes on to the places left that it may take
-        module _ (t : r ≡ true) {next : ℕ} (h : next ≡ nextWithin (day .counts .slots) (getD domains choice 0) (left - 1)) where
+        module _ (t : r ≡ true) {next : ℕ} (h : next ≡ nextWithin (day .counts .slots) opened (left - 1)) where
           -- with the sums as before every place of the domain fits again
-          fits-again : AllFit (day .counts .slots) (day .counts .choosers) (day .mins) (day .optional) sums₂ (getD domains choice 0) choice
+          fits-again : AllFit (day .counts .slots) (day .counts .choosers) (day .mins) (day .optional) sums₂ opened choice
           fits-again = rw sums-back (o .all-fit)
 
-          m : next ≡ nextIn (day .counts .slots) (day .counts .choosers) (day .mins) (day .optional) sums₂ (getD domains choice 0) choice (left - 1)
+          m : next ≡ nextIn (day .counts .slots) (day .counts .choosers) (day .mins) (day .optional) sums₂ opened choice (left - 1)
           m =
               h
-              ∙ within-in (day .counts .slots) (day .counts .choosers) (day .mins) (day .optional) sums₂ (getD domains choice 0) choice (l .shaped .few-slots) fits-again (left - 1)
+              ∙ within-in (day .counts .slots) (day .counts .choosers) (day .mins) (day .optional) sums₂ opened choice (l .shaped .few-slots) fits-again (left - 1)
               (omega (arith, o .few))
 
           pub fewer : next < left
-          fewer = omega (arith, m, in-within (day .counts .slots) (day .counts .choosers) (day .mins) (day .optional) sums₂ (getD domains choice 0) choice (left - 1), o .some)
+          fewer = omega (arith, m, in-within (day .counts .slots) (day .counts .choosers) (day .mins) (day .optional) sums₂ opened choice (left - 1), o .some)
 
-          rest-events : leftOf day tables choice p₁ sums₂ fills₂ domains next ≡ leftOf day tables choice p sums fills domains (left - 1)
+          rest-events : leftOf day tables choice p₁ sums₂ fills₂ domains opened next ≡ leftOf day tables choice p sums fills domains opened (left - 1)
           rest-events =
               rw (same, before, m)
-              (rw (sums-back, fills-back) (left-in day tables (length p - (choice + 1)) (take choice p) sums fills domains at-start (left - 1)))
+              (rw (sums-back, fills-back) (left-in day tables (length p - (choice + 1)) (take choice p) sums fills domains opened at-start (left - 1)))
 
-          rest-run : run first room (standing true turns met buffer) (leftOf day tables choice p sums fills domains left)
-              ≡ run first room (standing true turns₁ met₁ buffer₁) (leftOf day tables choice p₁ sums₂ fills₂ domains next)
+          rest-run : run first room (standing true turns met buffer) (leftOf day tables choice p sums fills domains opened left)
+              ≡ run first room (standing true turns₁ met₁ buffer₁) (leftOf day tables choice p₁ sums₂ fills₂ domains opened next)
           rest-run =
               left-run
-              ∙ ap (λ (c : Bool). run first room (standing c turns₁ met₁ buffer₁) (leftOf day tables choice p sums fills domains (left - 1))) t
+              ∙ ap (λ (c : Bool). run first room (standing c turns₁ met₁ buffer₁) (leftOf day tables choice p sums fills domains opened (left - 1))) t
               ∙ ap (run first room (standing true turns₁ met₁ buffer₁)) (sym rest-events)
 
           pub walked-last : next ≡ 0
-              → Walked first room choice (leftOf day tables choice p sums fills domains left) p p₁ sums sums₂ fills fills₂ (standing true turns met buffer) (standing true turns₁ met₁ buffer₁)
+              → Walked first room choice (leftOf day tables choice p sums fills domains opened left) p p₁ sums sums₂ fills fills₂ (standing true turns met buffer) (standing true turns₁ met₁ buffer₁)
           unfolding eventsLeft run
-          walked-last z = moved (sym (rest-run ∙ ap (λ (i : ℕ). run first room (standing true turns₁ met₁ buffer₁) (leftOf day tables choice p₁ sums₂ fills₂ domains i)) z))
+          walked-last z = moved (sym (rest-run ∙ ap (λ (i : ℕ). run first room (standing true turns₁ met₁ buffer₁) (leftOf day tables choice p₁ sums₂ fills₂ domains opened i)) z))
 
-          pub rest-requires : length buffer₁ ≡ length buffer → (next ≡ 0 → ⊥) → Ready day first room (choice + 1) choice p₁ sums₂ fills₂ turns₁ met₁ buffer₁ × Takes day choice next sums₂ domains
+          pub rest-requires : length buffer₁ ≡ length buffer → (next ≡ 0 → ⊥) → Ready day first room (choice + 1) choice p₁ sums₂ fills₂ turns₁ met₁ buffer₁ × Takes day choice opened next sums₂
           unfolding eventsFrom
           rest-requires b k =
               let a : Ran first room turns met buffer (hereOf day tables (choice + 1) p' sums' fills' domains) (standing r turns₁ met₁ buffer₁) = rw (g .stands) (ran first room (hereOf day tables (choice + 1) p' sums' fills' domains) turns met buffer (l .unfinished)) in
-              let c = plans-cost-turns day (eyesOf day tables) (length p' - (choice + 1)) (take (choice + 1) p') (carried sums' fills' domains) in (
+              let c = plans-cost-turns day (eyesOf day tables) (length p' - (choice + 1)) (take (choice + 1) p') (carried sums' fills' domains (day .rows)) in (
                 record {
                   shaped = shaped-kept (l .shaped) same b;
                   walks = rw sums-back (l .walks);
@@ -479,12 +656,12 @@ module _ (choice left : ℕ) {day : Day} {first room : ℕ} {p sums fills : List
                   unfinished = a .on t .2;
                   numbers = omega (arith, l .numbers, a .number, a .on t .0, a .on t .1, c);
                 },
-                takes-next day choice (left - 1) sums₂ domains (omega (arith, o .few)) fits-again m k,
+                takes-next day choice (left - 1) sums₂ opened (omega (arith, o .few)) fits-again m k,
               )
 
           pub walked-rest : {after : Standing} {p₂ sums₃ fills₃ : List ℕ}
-              → Walked first room choice (leftOf day tables choice p₁ sums₂ fills₂ domains next) p₁ p₂ sums₂ sums₃ fills₂ fills₃ (standing true turns₁ met₁ buffer₁) after
-              → Walked first room choice (leftOf day tables choice p sums fills domains left) p p₂ sums sums₃ fills fills₃ (standing true turns met buffer) after
+              → Walked first room choice (leftOf day tables choice p₁ sums₂ fills₂ domains opened next) p₁ p₂ sums₂ sums₃ fills₂ fills₃ (standing true turns₁ met₁ buffer₁) after
+              → Walked first room choice (leftOf day tables choice p sums fills domains opened left) p p₂ sums sums₃ fills fills₃ (standing true turns met buffer) after
           walked-rest d =
               record {
                 stands = d .stands ∙ sym rest-run;

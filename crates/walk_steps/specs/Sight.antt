@@ -3,27 +3,46 @@ use mathlib.Core.Bool.{Bool, true, _&&_, cond}
 use mathlib.Core.List.{List, [], _∷_, _++_}
 use Prim.Native.Nat.{ℕ, zero, suc, _+_, _-_}
 use lib.Dec.{leb}
-use lib.ListN.{length, getD}
+use lib.ListN.{length, getD, take, drop}
 use Rattle.choice_sets.specs.Sets.{has}
-use Rattle.scheduling.specs.Day.{Day}
+use Rattle.scheduling.specs.Day.{Day, dayOf}
 use Rattle.listing_nodes.specs.steps.Walk.{placeOf, placeFits, sumsWith}
 use Rattle.alive_starts.specs.Alive.{Event, Eyes, events}
 use Rattle.place_sets.specs.Domains.{placeNumber}
-use Rattle.look_ahead.specs.Look.{seenAt}
+use Rattle.decided_rows.specs.Decided.{frontOf}
+use Rattle.look_ahead.specs.Look.{seenAt, openedAt}
 
--- each slot's sum of minimums and of maximums, and the domains
+-- each slot's sum of minimums and of maximums, the domains, and the rows that are not decided yet
 pub record Carried : Type 0 where
   pub sums : List ℕ
   pub fills : List ℕ
   pub domains : List ℕ
+  pub rows : List ℕ
 
-abbrev pub carried : List ℕ → List ℕ → List ℕ → Carried
-carried sums fills domains = record { sums = sums; fills = fills; domains = domains }
+abbrev pub carried : List ℕ → List ℕ → List ℕ → List ℕ → Carried
+carried sums fills domains rows = record { sums = sums; fills = fills; domains = domains; rows = rows }
 
--- the domains as they are seen at a start, with each slot's sums so far
-unfoldable pub seen : Day → List ℕ → List ℕ → List ℕ → List ℕ → List ℕ → List ℕ
-seen day tables start sums fills domains =
-    seenAt (day .counts) (day .mins) (day .maxs) (day .optional) (day .rows) tables start (length start) sums fills domains
+-- the day with other rows
+abbrev pub withRows : Day → List ℕ → Day
+withRows day rows = dayOf (day .counts) (day .mins) (day .maxs) (day .optional) rows
+
+-- how many of its rows are decided with a choice
+abbrev pub decidedWith : Day → ℕ → ℕ
+decidedWith day choice = frontOf (day .counts .slots) choice (day .rows)
+
+-- the day with the rows that are not decided once the choice has its place
+abbrev pub afterChoice : Day → ℕ → Day
+afterChoice day choice = withRows day (drop (decidedWith day choice) (day .rows))
+
+-- the domains as they are seen at a start
+unfoldable pub seen : Day → List ℕ → List ℕ → List ℕ → List ℕ
+seen day tables start domains =
+    seenAt (day .counts) (day .mins) (day .maxs) (day .rows) tables start (length start) domains
+
+-- the places that are open to the next choice, by the domains as they are seen and each slot's sums so far
+unfoldable pub openTo : Day → List ℕ → List ℕ → List ℕ → List ℕ → List ℕ → ℕ
+openTo day tables start sums fills domains =
+    openedAt (day .counts) (day .mins) (day .maxs) (day .optional) (take (decidedWith day (length start)) (day .rows)) tables start (length start) sums fills (getD domains (length start) 0)
 
 -- a choice may take a place: the minimums fit, and its domain has it
 unfoldable pub mayTake : ℕ → ℕ → List ℕ → List ℕ → List ℕ → ℕ → ℕ → ℕ → Bool
@@ -51,27 +70,34 @@ unfoldable pub eyesOf : Day → List ℕ → Eyes Carried
 eyesOf day tables =
     record {
       worth = λ start x. true;
-      opens = λ start x place. mayTake (day .counts .slots) (day .counts .choosers) (day .mins) (day .optional) (x .sums) (getD (seen day tables start (x .sums) (x .fills) (x .domains)) (length start) 0) (length start) place;
+      opens = λ start x place. mayTake (day .counts .slots) (day .counts .choosers) (day .mins) (day .optional) (x .sums)
+          (openTo (withRows day (x .rows)) tables start (x .sums) (x .fills) (seen (withRows day (x .rows)) tables start (x .domains))) (length start) place;
       next = λ start x place. carried
           (sumsWith (day .counts .slots) (day .mins) (x .sums) (length start) place)
           (sumsWith (day .counts .slots) (day .maxs) (x .fills) (length start) place)
-          (seen day tables start (x .sums) (x .fills) (x .domains));
+          (seen (withRows day (x .rows)) tables start (x .domains))
+          (afterChoice (withRows day (x .rows)) (length start) .rows);
     }
 
 module _ (day : Day) (tables : List ℕ) where
   -- what happens from a start on, with so many choices left
   unfoldable pub eventsFrom : ℕ → List ℕ → List ℕ → List ℕ → List ℕ → List Event
-  eventsFrom n start sums fills domains = events day (eyesOf day tables) n start (carried sums fills domains)
+  eventsFrom n start sums fills domains = events day (eyesOf day tables) n start (carried sums fills domains (day .rows))
 
-  -- with one place, the domains as they are seen at the start
-  unfoldable pub eventsAt : ℕ → List ℕ → List ℕ → List ℕ → List ℕ → ℕ → List Event
-  eventsAt n start sums fills domains place =
-      cond (mayTake (day .counts .slots) (day .counts .choosers) (day .mins) (day .optional) sums (getD domains (length start) 0) (length start) place)
+  -- with one place of those that are open, the domains as they are seen at the start
+  unfoldable pub eventsAt : ℕ → List ℕ → List ℕ → List ℕ → List ℕ → ℕ → ℕ → List Event
+  eventsAt n start sums fills domains opened place =
+      cond (mayTake (day .counts .slots) (day .counts .choosers) (day .mins) (day .optional) sums opened (length start) place)
       (eventsFrom n (start ++ (place ∷ [])) (sumsWith (day .counts .slots) (day .mins) sums (length start) place) (sumsWith (day .counts .slots) (day .maxs) fills (length start) place) domains)
       []
 
   -- with one of the last so many places
-  unfoldable pub eventsLeft : ℕ → List ℕ → List ℕ → List ℕ → List ℕ → ℕ → List Event
-  eventsLeft n start sums fills domains zero = []
-  eventsLeft n start sums fills domains (suc left) =
-      eventsAt n start sums fills domains (placeOf (day .counts .slots) (day .counts .slots - left)) ++ eventsLeft n start sums fills domains left
+  unfoldable pub eventsLeft : ℕ → List ℕ → List ℕ → List ℕ → List ℕ → ℕ → ℕ → List Event
+  eventsLeft n start sums fills domains opened zero = []
+  eventsLeft n start sums fills domains opened (suc left) =
+      eventsAt n start sums fills domains opened (placeOf (day .counts .slots) (day .counts .slots - left)) ++ eventsLeft n start sums fills domains opened left
+
+-- with any place that is open, the rows that the next choice decides left behind
+unfoldable pub eventsSeen : Day → List ℕ → ℕ → List ℕ → List ℕ → List ℕ → List ℕ → List Event
+eventsSeen day tables n start sums fills domains =
+    eventsLeft (afterChoice day (length start)) tables n start sums fills domains (openTo day tables start sums fills domains) (day .counts .slots + 1)

@@ -43,9 +43,9 @@ unfoldable pub AllFit : ℕ → ℕ → List ℕ → List ℕ → List ℕ → �
 AllFit slots choosers mins optional sums domain choice =
     (at : ℕ) → at ≤ slots → has domain at ≡ true → placeFits slots choosers mins optional sums choice (placeOf slots at) ≡ true
 
--- a place is left, the choice may take it, and so it may every place of its domain
-pub record Takes (day : Day) (choice left : ℕ) (sums domains : List ℕ) : Type 0 where
+-- a place is left, the choice may take it, and so it may every place that is open
+pub record Takes (day : Day) (choice opened left : ℕ) (sums : List ℕ) : Type 0 where
   pub some : 0 < left
   pub few : left ≤ day .counts .slots + 1
-  pub fits : mayTake (day .counts .slots) (day .counts .choosers) (day .mins) (day .optional) sums (getD domains choice 0) choice (placeOf (day .counts .slots) (day .counts .slots + 1 - left)) ≡ true
-  pub all-fit : AllFit (day .counts .slots) (day .counts .choosers) (day .mins) (day .optional) sums (getD domains choice 0) choice
+  pub fits : mayTake (day .counts .slots) (day .counts .choosers) (day .mins) (day .optional) sums opened choice (placeOf (day .counts .slots) (day .counts .slots + 1 - left)) ≡ true
+  pub all-fit : AllFit (day .counts .slots) (day .counts .choosers) (day .mins) (day .optional) sums opened choice

@@ -1,5 +1,5 @@
 // What the walk does at a place: the sums with the choice there, and without it again.
-use super::next::next_of;
+use super::next::next_in;
 use listing_nodes::nodes::wide;
 use listing_starts::full::SLOTS;
 use listing_starts::places::place_at;
@@ -97,16 +97,15 @@ pub fn take_place(
 pub fn leave_place(
     asked: &[usize; 6],
     stood: Stood,
-    choice: usize,
     left: usize,
-    domains: &[u64; 64],
+    places: u64,
     sums: &mut [usize; 24],
     fills: &mut [usize; 24],
 ) -> usize
-    ensures { λ r. ⌜ LeftPlace (getD (now (asked .entry)) 1 0) left (getD (now (domains .entry)) choice 0) (stood .place) (stood .least) (stood .most) (now (sums .entry)) (now (sums .exit)) (now (fills .entry)) (now (fills .exit)) r ⌝ }
+    ensures { λ r. ⌜ LeftPlace (getD (now (asked .entry)) 1 0) left places (stood .place) (stood .least) (stood .most) (now (sums .entry)) (now (sums .exit)) (now (fills .entry)) (now (fills .exit)) r ⌝ }
 {
     let slots = asked[SLOTS];
     take_at(slots, stood.place, stood.least, sums);
     take_at(slots, stood.place, stood.most, fills);
-    next_of(slots, choice, domains, less(left, 1))
+    next_in(slots, places, less(left, 1))
 }

@@ -1,4 +1,4 @@
 -- Laws of the weights and of the tables.
 pub mod WeightLaws
 pub mod TableLaws
-pub mod EnoughLaws
+pub mod StartLaws

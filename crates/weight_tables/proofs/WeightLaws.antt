@@ -35,19 +35,7 @@ from-le from zero f g h = omega arith
 from-le from (suc count) f g h =
     omega (arith, h from (omega arith) (omega arith), from-le (suc from) count f g λ k a b. h k (omega arith) (omega arith))
 
--- two sums as one
-pub from-add : (from count : ℕ) (f g : ℕ → ℕ) → sumFrom from count (λ k. f k + g k) ≡ sumFrom from count f + sumFrom from count g
-unfolding sumFrom
-from-add from zero f g = refl
-from-add from (suc count) f g = rw (from-add (suc from) count f g) (omega arith)
-
--- so many ones
-pub from-ones : (from count : ℕ) → sumFrom from count (λ k. 1) ≡ count
-unfolding sumFrom
-from-ones from zero = refl
-from-ones from (suc count) = rw (from-ones (suc from) count) (omega arith)
-
--- the same three for sums below a bound
+-- the like for sums below a bound
 pub below-le : (n : ℕ) (f g : ℕ → ℕ) → ((k : ℕ) → k < n → f k ≤ g k) → sumBelow n f ≤ sumBelow n g
 unfolding sumBelow
 below-le zero f g h = omega arith

@@ -1,11 +1,10 @@
 -- The four tables in one array: a table has 65 rows, one for each first choice, of 201 entries, one for each lack; after the tables stands what each choice weighs in each table.
 use mathlib.Core.Path.{_≡_}
-use mathlib.Core.Bool.{Bool, true, false, _&&_, _||_, cond}
+use mathlib.Core.Bool.{Bool, true, false, _&&_, cond}
 use mathlib.Core.List.{List}
 use Prim.Native.Nat.{ℕ, zero, suc, _+_, _-_, _*_, _≤_, _<_, min}
 use lib.Dec.{eqb, ltb, leb}
 use lib.ListN.{length, getD, set}
-use Rattle.lists.specs.Below.{sumBelow}
 use Rattle.constraint.specs.declared.check.Counts.{Counts}
 use Rattle.weight_tables.specs.Weights.{leastOf}
 
@@ -43,14 +42,6 @@ pub record FillsOne (counts : Counts) (table : ℕ) (maxs before after : List �
   pub others : (other from lack : ℕ) → (other ≡ table → ⊥) → entryAt after other from lack ≡ entryAt before other from lack
   pub weights : (other choice : ℕ) → weightAt after other choice ≡ weightAt before other choice
   pub untouched : (tablesFit counts maxs && ltb table 4) ≡ false → after ≡ before
-
--- the slots' lacks, filled by disjoint sets of the choices left, take no more of those than there are: each weighs at most 1 in table 0
-unfoldable pub enoughLeft : (ℕ → ℕ → ℕ → ℕ) → ℕ → ℕ → ℕ → ℕ → List ℕ → Bool
-enoughLeft entry slots choosers choices from fills =
-    ltb 24 slots
-    || (ltb 200 choosers
-    || (ltb 64 choices
-    || (ltb choices from || leb (sumBelow slots λ slot. entry 0 from (choosers - getD fills slot 0)) (choices - from))))
 
 -- so many entries written one after the other
 unfoldable pub written : ℕ → ℕ → (ℕ → ℕ) → List ℕ → List ℕ

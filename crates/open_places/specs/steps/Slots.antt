@@ -18,10 +18,10 @@ fitsAt slots choosers least flag sums domain at = cond (ltb at slots) (leb (getD
 unfoldable pub fitting : ℕ → ℕ → ℕ → ℕ → List ℕ → ℕ → ℕ
 fitting slots choosers least flag sums domain = setOf (slots + 1) (fitsAt slots choosers least flag sums domain)
 
--- the choice in the slot leaves enough for the others: the rest of the slot's lack takes so few of the choices after
+-- the choice in the slot leaves enough for the others: the rest of the slot's lack takes so little of what the choices after weigh
 unfoldable pub leavesEnough : (ℕ → ℕ → ℕ → ℕ) → ℕ → ℕ → List ℕ → ℕ → ℕ → ℕ → ℕ → Bool
 leavesEnough entry choosers from fills most need spare slot =
-    leb (entry 0 from (choosers - getD fills slot 0 - most) + need) (spare + entry 0 from (choosers - getD fills slot 0))
+    leb (entry 1 from (choosers - getD fills slot 0 - most) + need) (spare + entry 1 from (choosers - getD fills slot 0))
 
 -- a slot that fits and in which it does
 unfoldable pub slotOpen : (ℕ → ℕ → ℕ → ℕ) → ℕ → ℕ → List ℕ → ℕ → List ℕ → ℕ → ℕ → ℕ → ℕ → ℕ → Bool

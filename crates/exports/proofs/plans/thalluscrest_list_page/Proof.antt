@@ -5,7 +5,7 @@ use Rattle.exports.proofs.plans.thalluscrest_list_page.Tie as tie
 use Rattle.exports.proofs.plans.thalluscrest_list_page.Reads as reads
 use Rattle.exports.proofs.plans.thalluscrest_list_page.Lts as lts
 use Rattle.call_figures.proofs.plan.put_paged.Reads as put-paged-reads
-use Rattle.plan_walk.proofs.page.list_page.Reads as list-page-reads
+use Rattle.plan_pages.proofs.page.list_page.Reads as list-page-reads
 
 list-page-requires : tie.Need-list-page-requires
 list-page-requires c κs = tt

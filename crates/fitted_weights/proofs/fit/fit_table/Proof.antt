@@ -8,10 +8,10 @@ use Rattle.fitted_weights.proofs.fit.bring_all.Reads as bring-all-reads
 use Rattle.fitted_weights.proofs.kinds.count_kinds.Reads as count-kinds-reads
 use Rattle.fitted_weights.proofs.kinds.first_of.Reads as first-of-reads
 use Rattle.fitted_weights.proofs.lightest.weigh_choices.Reads as weigh-choices-reads
-use Rattle.fitted_weights.proofs.simplex.no_program.Reads as no-program-reads
-use Rattle.fitted_weights.proofs.simplex.start.Reads as start-reads
-use Rattle.fitted_weights.proofs.simplex.weigh_absent.Reads as weigh-absent-reads
-use Rattle.fitted_weights.proofs.simplex.weigh_kinds.Reads as weigh-kinds-reads
+use Rattle.linear_program.proofs.simplex.no_program.Reads as no-program-reads
+use Rattle.linear_program.proofs.simplex.start.Reads as start-reads
+use Rattle.linear_program.proofs.absent.weigh_absent.Reads as weigh-absent-reads
+use Rattle.linear_program.proofs.simplex.weigh_kinds.Reads as weigh-kinds-reads
 
 -- src/fit.rt:104:9
 first-of-requires : tie.Need-first-of-requires
@@ -44,7 +44,7 @@ weigh-absent-requires c κs = search needs
 -- src/fit.rt:121:5
 weigh-choices-requires : tie.Need-weigh-choices-requires
 weigh-choices-requires c κs =
-    let s = c .before .before .before .before .before .before .before .before .before .before .before .before .before .before .before .before .before .before in (s .pre .0 .0 .0, s .pre .0 .1 .1)
+    let s = c .before .before .before .before .before .before .before .before .before .before .before .before .before .before .before .before .before .before in (s .pre .0 .0, s .pre .1 .1)
 
 -- src/fit.rt:91:1
 returns : tie.Need-returns

@@ -6,7 +6,7 @@ use Rattle.fitted_weights.proofs.lightest.weigh_choices.Tie as tie
 use Rattle.fitted_weights.proofs.lightest.weigh_choices.Reads as reads
 use Rattle.fitted_weights.proofs.lightest.weigh_choices.Lts as lts
 use Rattle.fitted_weights.proofs.lightest.parts_of.Reads as parts-of-reads
-use Rattle.fitted_weights.proofs.simplex.weight_of.Reads as weight-of-reads
+use Rattle.linear_program.proofs.simplex.weight_of.Reads as weight-of-reads
 
 abbrev Inv-loop : tie.InvT-loop
 Inv-loop table choices kinds program tables₀ choice₀ tables choice =

@@ -5,7 +5,7 @@ use Rattle.open_places.proofs.open.leaves_enough.Statement.{statement}
 use Rattle.open_places.proofs.open.leaves_enough.Tie as tie
 use Rattle.open_places.proofs.open.leaves_enough.Reads as reads
 use Rattle.open_places.proofs.open.leaves_enough.Lts as lts
-use Rattle.open_places.proofs.open.fewest.Reads as fewest-reads
+use Rattle.open_places.proofs.open.lightest.Reads as lightest-reads
 use Rattle.weight_tables.proofs.entry.less.Reads as less-reads
 
 -- src/open.rt:153:31
@@ -25,12 +25,12 @@ less-requires-2 : tie.Need-less-requires-2
 less-requires-2 c κs = search needs
 
 -- src/open.rt:154:9
-fewest-requires : tie.Need-fewest-requires
-fewest-requires c κs = search needs
+lightest-requires : tie.Need-lightest-requires
+lightest-requires c κs = search needs
 
 -- src/open.rt:155:9
-fewest-requires-2 : tie.Need-fewest-requires-2
-fewest-requires-2 c κs = search needs
+lightest-requires-2 : tie.Need-lightest-requires-2
+lightest-requires-2 c κs = search needs
 
 -- src/open.rt:156:5
 add-result : tie.Need-add-result
@@ -43,7 +43,7 @@ add-result-2 c = search needs
 -- src/open.rt:140:1
 returns : tie.Need-returns
 returns c =
-    leaves-by _ _ _ _ _ _ _ _ _ _ _ _ (c .before .before .before .less .ensures) (c .before .before .less2 .ensures) (c .before .fewest .ensures .0) (c .fewest2 .ensures .0)
+    leaves-by _ _ _ _ _ _ _ _ _ _ _ _ (c .before .before .before .less .ensures) (c .before .before .less2 .ensures) (c .before .lightest .ensures .0) (c .lightest2 .ensures .0)
 
 pub leaves-enough-spec : {M : Type 1} → statement M
 leaves-enough-spec =
@@ -53,8 +53,8 @@ leaves-enough-spec =
     element-copy-out-less
     less-requires
     less-requires-2
-    fewest-requires
-    fewest-requires-2
+    lightest-requires
+    lightest-requires-2
     add-result
     add-result-2
     returns)

@@ -1,4 +1,4 @@
--- The loop's invariant: what the lacks of the slots passed take.
+-- The loop's invariant: what the lacks of the slots passed weigh.
 use mathlib.Core.Path.{_≡_}
 use Prim.Native.Nat.{_-_, _*_, _≤_}
 use native.Mathlib.Omega.{arith}
@@ -12,12 +12,12 @@ use Rattle.open_places.proofs.open.need_by_fills.Statement.{statement}
 use Rattle.open_places.proofs.open.need_by_fills.Tie as tie
 use Rattle.open_places.proofs.open.need_by_fills.Reads as reads
 use Rattle.open_places.proofs.open.need_by_fills.Lts as lts
-use Rattle.open_places.proofs.open.fewest.Reads as fewest-reads
+use Rattle.open_places.proofs.open.lightest.Reads as lightest-reads
 use Rattle.weight_tables.proofs.entry.less.Reads as less-reads
 
 abbrev Inv-loop : tie.InvT-loop
 Inv-loop slots choosers from fills tables need₀ slot₀ need slot =
-    ((slot ≤ slots) × (need ≤ slot * 65535)) × (need ≡ needOf (entryAt tables) slot 0 from (lacksAt choosers slots fills))
+    ((slot ≤ slots) × (need ≤ slot * 65535)) × (need ≡ needOf (entryAt tables) slot 1 from (lacksAt choosers slots fills))
 
 abbrev μ-loop : tie.MeasureT-loop
 μ-loop slots choosers from fills tables need₀ slot₀ need slot =
@@ -41,14 +41,14 @@ less-requires : tie.Need-less-requires Inv-loop μ-loop
 less-requires c κs = search needs
 
 -- src/open.rt:73:17
-fewest-requires : tie.Need-fewest-requires Inv-loop μ-loop
-fewest-requires c κs =
+lightest-requires : tie.Need-lightest-requires Inv-loop μ-loop
+lightest-requires c κs =
     (c .before .before .before .before .pre .1 .1, omega (arith, c .less .ensures, c .before .before .before .before .pre .1 .0))
 
 -- src/open.rt:73:9
 add-need : tie.Need-add-need Inv-loop μ-loop
 add-need c =
-    omega (arith, c .before .before .before .before .loop .inv .0 .1, c .fewest .ensures .1, c .before .before .before .loop-test .taken, c .before .before .before .before .before .pre .0)
+    omega (arith, c .before .before .before .before .loop .inv .0 .1, c .lightest .ensures .1, c .before .before .before .loop-test .taken, c .before .before .before .before .before .pre .0)
 
 -- src/open.rt:74:9
 add-slot : tie.Need-add-slot Inv-loop μ-loop
@@ -61,7 +61,7 @@ loop-less c = search needs
 -- src/open.rt:72:5
 loop-again : tie.Need-loop-again Inv-loop μ-loop
 loop-again c =
-    ((omega (arith, c .before .before .before .loop-test .taken), omega (arith, c .before .before .before .before .loop .inv .0 .1, c .fewest .ensures .1)), need-more _ _ _ _ _ _ _ _ _ (c .before .before .before .before .before .pre .0) (c .before .before .before .loop-test .taken) (c .before .before .before .before .loop .inv .1) (c .before .less .ensures) (c .fewest .ensures .0))
+    ((omega (arith, c .before .before .before .loop-test .taken), omega (arith, c .before .before .before .before .loop .inv .0 .1, c .lightest .ensures .1)), need-more _ _ _ _ _ _ _ _ _ (c .before .before .before .before .before .pre .0) (c .before .before .before .loop-test .taken) (c .before .before .before .before .loop .inv .1) (c .before .less .ensures) (c .lightest .ensures .0))
 
 -- src/open.rt:60:1
 returns : tie.Need-returns Inv-loop μ-loop
@@ -78,7 +78,7 @@ need-by-fills-spec =
     mul-less
     element-copy-out-less
     less-requires
-    fewest-requires
+    lightest-requires
     add-need
     add-slot
     loop-less

@@ -13,11 +13,12 @@ use Rattle.open_places.proofs.open.fitting_places.Reads as fitting-plac
 use Rattle.open_places.proofs.open.flag_of.Reads as flag-of-reads
 use Rattle.open_places.proofs.open.is_asked.Reads as is-asked-reads
 use Rattle.open_places.proofs.open.places_left.Reads as places-left-reads
+use Rattle.open_places.proofs.open.weight_after.Reads as weight-after-reads
 
 -- src/open.rt:263:9
 returns : tie.Need-returns
 returns c =
-    open-many _ _ _ _ _ _ _ _ _ (c .if1 .taken)
+    open-many _ _ _ _ _ _ _ _ _ _ (c .if1 .taken)
 
 -- src/open.rt:265:9
 amount-of-requires : tie.Need-amount-of-requires
@@ -38,7 +39,7 @@ fitting-places-requires c κs = search needs
 -- src/open.rt:268:9
 returns-2 : tie.Need-returns-2
 returns-2 c =
-    open-unasked _ _ _ _ _ _ _ _ _ (c .before .before .before .before .before .if1 .left) _ _ (c .before .before .before .before .amount-of .ensures) (c .before .before .before .flag-of .ensures) _ (c .before .before .is-asked .ensures) (not-true _ (c .before .if2 .taken)) (c .fitting-places .ensures)
+    open-unasked _ _ _ _ _ _ _ _ _ _ (c .before .before .before .before .before .if1 .left) _ _ (c .before .before .before .before .amount-of .ensures) (c .before .before .before .flag-of .ensures) _ (c .before .before .is-asked .ensures) (not-true _ (c .before .if2 .taken)) (c .fitting-places .ensures)
 
 -- src/open.rt:270:9
 amount-of-requires-2 : tie.Need-amount-of-requires-2
@@ -50,19 +51,19 @@ add-from c =
     let m = asked-means _ _ (sym (c .before .before .is-asked .ensures) ∙ not-false _ (c .before .if2 .left)) in omega (arith, m .1 .0, m .1 .1)
 
 -- src/open.rt:272:17
-sub-spare : tie.Need-sub-spare
-sub-spare c =
-    let m = asked-means _ _ (sym (c .before .before .before .is-asked .ensures) ∙ not-false _ (c .before .before .if2 .left)) in omega (arith, m .1 .1)
+weight-after-requires : tie.Need-weight-after-requires
+weight-after-requires c κs =
+    let m = asked-means _ _ (sym (c .before .before .is-asked .ensures) ∙ not-false _ (c .before .if2 .left)) in (m .1 .0, omega (arith, m .1 .1))
 
 -- src/open.rt:273:5
 places-left-requires : tie.Need-places-left-requires
 places-left-requires c κs =
-    let m = asked-means _ _ (sym (c .before .before .before .is-asked .ensures) ∙ not-false _ (c .before .before .if2 .left)) in ((c .before .before .before .before .before .before .if1 .left, (m .0, omega (arith, m .1 .0, m .1 .1))), omega (arith, m .1 .0))
+    let m = asked-means _ _ (sym (c .before .before .before .is-asked .ensures) ∙ not-false _ (c .before .before .if2 .left)) in ((c .before .before .before .before .before .before .if1 .left, (m .0, omega (arith, m .1 .0, m .1 .1))), c .weight-after .ensures .1)
 
 -- src/open.rt:249:1
 returns-3 : tie.Need-returns-3
 returns-3 c =
-    open-asked _ _ _ _ _ _ _ _ _ (c .before .before .before .before .before .before .before .if1 .left) _ _ (c .before .before .before .before .before .before .amount-of .ensures) (c .before .before .before .before .before .flag-of .ensures) _ _ (c .before .before .before .before .is-asked .ensures) (not-false _ (c .before .before .before .if2 .left)) (c .before .before .amount-of2 .ensures) (c .places-left .ensures)
+    open-asked _ _ _ _ _ _ _ _ _ _ (c .before .before .before .before .before .before .before .if1 .left) _ _ (c .before .before .before .before .before .before .amount-of .ensures) (c .before .before .before .before .before .flag-of .ensures) _ _ _ (c .before .before .before .before .is-asked .ensures) (not-false _ (c .before .before .before .if2 .left)) (c .before .before .amount-of2 .ensures) (c .before .weight-after .ensures .0) (c .places-left .ensures)
 
 pub open-places-spec : {M : Type 1} → statement M
 open-places-spec =
@@ -76,6 +77,6 @@ open-places-spec =
     returns-2
     amount-of-requires-2
     add-from
-    sub-spare
+    weight-after-requires
     places-left-requires
     returns-3)

@@ -4,7 +4,7 @@ use Rattle.walk_steps.proofs.stand.leave_place.Statement.{statement}
 use Rattle.walk_steps.proofs.stand.leave_place.Tie as tie
 use Rattle.walk_steps.proofs.stand.leave_place.Reads as reads
 use Rattle.walk_steps.proofs.stand.leave_place.Lts as lts
-use Rattle.walk_steps.proofs.next.next_of.Reads as next-of-reads
+use Rattle.walk_steps.proofs.next.next_in.Reads as next-in-reads
 use Rattle.walk_steps.proofs.stand.take_at.Reads as take-at-reads
 use Rattle.weight_tables.proofs.entry.less.Reads as less-reads
 
@@ -28,8 +28,8 @@ less-requires c κs =
     tt
 
 -- src/stand.rt:112:5
-next-of-requires : tie.Need-next-of-requires
-next-of-requires c κs =
+next-in-requires : tie.Need-next-in-requires
+next-in-requires c κs =
     tt
 
 -- src/stand.rt:98:1
@@ -38,7 +38,7 @@ returns c =
     record {
       summed = c .before .before .before .before .take-at .ensures;
       filled = c .before .before .take-at2 .ensures;
-      goes = rw (c .before .less .ensures) at (c .next-of .ensures);
+      goes = rw (c .before .less .ensures) at (c .next-in .ensures);
     }
 
 pub leave-place-spec : {M : Type 1} → statement M
@@ -49,5 +49,5 @@ leave-place-spec =
     take-at-requires
     take-at-requires-2
     less-requires
-    next-of-requires
+    next-in-requires
     returns)

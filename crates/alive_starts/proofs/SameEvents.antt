@@ -1,0 +1,39 @@
+-- Days that judge every plan from a start on alike have the same events there, seen by the same eyes.
+use mathlib.Core.Path.{_≡_, refl, sym, ap, _∙_}
+use mathlib.Core.Bool.{Bool, true, false, cond}
+use mathlib.Core.List.{List, [], _∷_, _++_, map, flatMap, append-nil}
+use Prim.Native.Nat.{ℕ, zero, suc}
+use lib.Seq.{append-snoc}
+use Rattle.lists.proofs.Keep.{flatMap-ext}
+use Rattle.scheduling.specs.Day.{Day}
+use Rattle.scheduling.specs.Feasible.{feasible}
+use Rattle.listing_nodes.specs.Placements.{places}
+use Rattle.listing_nodes.specs.steps.Walk.{ifFeasible}
+use Rattle.alive_starts.specs.Alive.{Event, visit, plan, Eyes, events}
+
+-- every plan that goes on from the start is judged alike
+unfoldable pub Alike : Day → Day → List ℕ → Type 0
+Alike one other start = (rest : List ℕ) → feasible one (start ++ rest) ≡ feasible other (start ++ rest)
+
+-- so it is from the next start on
+pub alike-next : (one other : Day) (start : List ℕ) (place : ℕ) → Alike one other start → Alike one other (start ++ (place ∷ []))
+unfolding Alike
+alike-next one other start place a rest =
+    let same : (start ++ (place ∷ [])) ++ rest ≡ start ++ (place ∷ rest) = append-snoc start place rest in
+    ap (feasible one) same ∙ a (place ∷ rest) ∙ sym (ap (feasible other) same)
+
+module _ (one other : Day) {X : Type 0} (eyes : Eyes X) (slots : one .counts .slots ≡ other .counts .slots) where
+  pub events-same : (n : ℕ) (start : List ℕ) (x : X) → Alike one other start → events one eyes n start x ≡ events other eyes n start x
+  unfolding events ifFeasible Alike
+  events-same zero start x a =
+      let h : feasible one start ≡ feasible other start = ap (feasible one) (sym (append-nil start)) ∙ a [] ∙ ap (feasible other) (append-nil start) in
+      ap (λ (b : Bool). visit ∷ cond (eyes .worth start x) (map plan (cond b (start ∷ []) [])) []) h
+  events-same (suc n) start x a =
+      ap (λ (l : List Event). visit ∷ cond (eyes .worth start x) l [])
+      (flatMap-ext
+      (λ place. cond (eyes .opens start x place) (events one eyes n (start ++ (place ∷ [])) (eyes .next start x place)) [])
+      (λ place. cond (eyes .opens start x place) (events other eyes n (start ++ (place ∷ [])) (eyes .next start x place)) [])
+      (places (one .counts .slots)) (λ place.
+      ap (λ (l : List Event). cond (eyes .opens start x place) l [])
+      (events-same n (start ++ (place ∷ [])) (eyes .next start x place) (alike-next one other start place a)))
+      ∙ ap (λ (s : ℕ). flatMap (λ place. cond (eyes .opens start x place) (events other eyes n (start ++ (place ∷ [])) (eyes .next start x place)) []) (places s)) slots)

@@ -1,0 +1,3 @@
+pub mod ExactLaws
+pub mod LeavesLaws
+pub mod LastLaws

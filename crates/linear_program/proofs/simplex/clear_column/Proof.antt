@@ -1,0 +1,67 @@
+-- The loop runs over the kinds.
+use Prim.Native.Nat.{_-_, _≤_}
+use borrow.Author.Needs.{needs}
+use Rattle.linear_program.proofs.simplex.clear_column.Statement.{statement}
+use Rattle.linear_program.proofs.simplex.clear_column.Tie as tie
+use Rattle.linear_program.proofs.simplex.clear_column.Reads as reads
+use Rattle.linear_program.proofs.simplex.clear_column.Lts as lts
+
+abbrev Inv-loop : tie.InvT-loop
+Inv-loop known program₀ kind₀ program kind =
+    kind ≤ known
+
+abbrev μ-loop : tie.MeasureT-loop
+μ-loop known program₀ kind₀ program kind =
+    known - kind
+
+-- src/simplex.rt:90:9
+returns : tie.Need-returns Inv-loop μ-loop
+returns c = search needs
+
+-- src/simplex.rt:109:5
+loop-holds : tie.Need-loop-holds Inv-loop μ-loop
+loop-holds c = search needs
+
+-- src/simplex.rt:110:17
+add-program : tie.Need-add-program Inv-loop μ-loop
+add-program c = search needs
+
+-- src/simplex.rt:110:9
+mul-program : tie.Need-mul-program Inv-loop μ-loop
+mul-program c = search needs
+
+-- src/simplex.rt:110:9
+element-write-program : tie.Need-element-write-program Inv-loop μ-loop
+element-write-program c = search needs
+
+-- src/simplex.rt:111:9
+add-kind : tie.Need-add-kind Inv-loop μ-loop
+add-kind c = search needs
+
+-- src/simplex.rt:109:5
+loop-less : tie.Need-loop-less Inv-loop μ-loop
+loop-less c = search needs
+
+-- src/simplex.rt:109:5
+loop-again : tie.Need-loop-again Inv-loop μ-loop
+loop-again c = search needs
+
+-- src/simplex.rt:105:1
+returns-2 : tie.Need-returns-2 Inv-loop μ-loop
+returns-2 c = search needs
+
+pub clear-column-spec : {M : Type 1} → statement M
+clear-column-spec =
+    tie.close
+    (tie.spec
+    Inv-loop
+    μ-loop
+    returns
+    loop-holds
+    add-program
+    mul-program
+    element-write-program
+    add-kind
+    loop-less
+    loop-again
+    returns-2)

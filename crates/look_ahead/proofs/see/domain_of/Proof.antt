@@ -1,0 +1,26 @@
+-- Past the list there is no place.
+use Rattle.place_sets.proofs.DomainLaws.{past-none}
+use borrow.Author.Needs.{needs}
+use Rattle.look_ahead.proofs.see.domain_of.Statement.{statement}
+use Rattle.look_ahead.proofs.see.domain_of.Tie as tie
+use Rattle.look_ahead.proofs.see.domain_of.Reads as reads
+use Rattle.look_ahead.proofs.see.domain_of.Lts as lts
+
+-- src/see.rt:41:9
+returns : tie.Need-returns
+returns c = past-none (c .before .args .domains .now) _ (c .if1 .taken)
+
+-- src/see.rt:43:5
+mul-result : tie.Need-mul-result
+mul-result c = search needs
+
+-- src/see.rt:43:5
+shared-slice-read-result : tie.Need-shared-slice-read-result
+shared-slice-read-result c = search needs
+
+-- src/see.rt:37:1
+returns-2 : tie.Need-returns-2
+returns-2 c = search needs
+
+pub domain-of-spec : {M : Type 1} → statement M
+domain-of-spec = tie.close (tie.spec returns mul-result shared-slice-read-result returns-2)

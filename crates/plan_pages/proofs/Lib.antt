@@ -1,0 +1,2 @@
+-- The proofs of the call: where the walk ends, and what a page tells.
+pub mod PageTells

@@ -1,0 +1,3 @@
+// A page of a day's plans: the call list_page.
+
+pub mod page;

@@ -1,2 +1,0 @@
--- The proofs of the walk and of the call.
-pub mod PageTells
