@@ -116,7 +116,8 @@ def asked(grounded, number, limit, *options):
     limits = [f"--time-limit={limit}"] if limit else []
     out, ended = clasp(grounded, "-n", str(number), "-q", "--outf=2", *limits, *options)
     told = json.loads(out)
-    return Said(told["Models"]["Number"], ended, told["Time"]["CPU"])
+    # Stopped before it began to look, clasp tells of no plans at all.
+    return Said(told.get("Models", {"Number": 0})["Number"], ended, told["Time"]["CPU"])
 
 
 def all_plans(grounded):

@@ -82,13 +82,16 @@ def random_case(draws):
 
 
 def many_choices(draws):
-    """Seven to ten choices, so that a walk looks ahead: sums that hold or nearly hold, a few rows of each kind."""
-    choices = draws.between(7, 10)
-    slots = 2 if choices > 8 else draws.pick([2, 3, 3])
+    """Nine to eleven choices, so that a walk looks ahead: sums that hold or nearly hold, a few rows of each kind."""
+    choices = draws.between(9, 11)
+    slots = 2 if choices > 9 else draws.pick([2, 3, 3])
     choosers = draws.between(5, 14)
     share = choosers * slots / choices
     maxs = [max(1, int(share * draws.between(80, 170) / 100)) for _ in range(choices)]
     mins = [draws.below(int(most * draws.pick([1, 1, 0.5])) + 1) for most in maxs]
+    if draws.chance(0.3):
+        # The first two together just fill a block.
+        mins = [choosers // 2, choosers - choosers // 2] + [0] * (choices - 2)
     optional = [int(draws.chance(0.2)) for _ in range(choices)]
     rows = []
     for _ in range(draws.pick([0, 1, 2, 3, 4])):

@@ -8,7 +8,7 @@ from cases.common import u16s
 from cases.preferences import random_levels, random_preferences
 
 SEED = 1_012
-FILE = "crates/replay_plans/data/plan"
+FILE = "crates/replay_plan/data/cases"
 
 
 def body(file):
