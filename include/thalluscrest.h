@@ -10,13 +10,15 @@
  * be one. A search tests what it places by the preferences up to a limit (its critical sets), and where it finds no
  * plan it raises the limit level by level; at the last level that test leaves every feasible plan.
  *
- * Build (in the project's folder, with Rattle's `rt`; it makes target/staticlib/libexports.a) and link (x86-64
- * Linux, the archive is all it takes):
+ * Build (in the project's folder, with Rattle's `rt`; it makes target/staticlib/libexports.a) and link (the archive
+ * is all it takes):
  *
  *     rt staticlib exports
  *     cc -std=c11 -Iinclude program.c target/staticlib/libexports.a -o program
  *
- * The archive needs nothing but memset, memcpy and their like from the C library.
+ * The archive is compiled for x86-64 Linux, on whatever machine it is made, and links into x86-64 programs only. On
+ * an Arm machine compile with x86_64-linux-gnu-gcc (Debian's gcc-x86-64-linux-gnu) in the place of cc, and run with
+ * `./thalluscrest run ./program`. It needs nothing but memset, memcpy and their like from the C library.
  *
  * WHAT HOLDS FOR EVERY CALL
  *

@@ -3,6 +3,9 @@
 //!
 //!     rustc --edition 2024 program.rs -C link-arg=target/staticlib/libexports.a
 //!
+//! The archive links into x86-64 programs only: on another machine add `--target x86_64-unknown-linux-gnu`, if rustc has that
+//! target's library, and `-C linker=x86_64-linux-gnu-gcc`, and run with `./thalluscrest run ./program`.
+//!
 //! `Day` owns what a day file holds and has a method for each call; `calls` has the calls themselves over slices.
 #![deny(unsafe_code)]
 #![allow(dead_code)]
