@@ -16,12 +16,13 @@ RUST_TARGET = "x86_64-unknown-linux-gnu"
 
 
 def emulated():
+    """Whether programs for x86-64 run under an emulator here."""
     return platform.machine() != "x86_64" or bool(os.environ.get("THALLUSCREST_EMULATE"))
 
 
 def end_not_here(script, why):
     """Ends the script in one line that says why."""
-    print(f"{script}: not on this machine ({platform.machine()}): {why}", file=sys.stderr)
+    print(f"{script}: not here, where x86-64 is emulated ({platform.machine()}): {why}", file=sys.stderr)
     sys.exit(NOT_HERE)
 
 
@@ -46,10 +47,12 @@ def x86_64_tool(script, plain, cross):
 
 
 def c_compiler(script):
+    """The C compiler whose programs the archive links into."""
     return x86_64_tool(script, "cc", "x86_64-linux-gnu-gcc")
 
 
 def symbol_lister(script):
+    """What lists the symbols of the archive."""
     return x86_64_tool(script, "nm", "x86_64-linux-gnu-nm")
 
 
