@@ -1,7 +1,7 @@
 #!/usr/bin/env python3
 """Makes day files as sites have them, from a seed.
 
-usage: oracle/real_days.py OUT_DIR COUNT SEED [--small | --middle]
+usage: oracle/real_days.py OUT_DIR COUNT SEED [--small | --middle] [--limits]
 
 Writes COUNT days of 10 to 40 stations and 3 to 10 blocks into OUT_DIR: two to four optional
 stations, pairs that share a room, follow-ups, late teachers, limits on blocks; tight days
@@ -9,6 +9,13 @@ stations, pairs that share a room, follow-ups, late teachers, limits on blocks; 
 ones often have one. With --small at most 7 stations and 4 blocks,
 a third of them wild: any rows, any sums. With --middle 8 to 18 stations and 3 to 6 blocks,
 whose plans clasp can often list.
+
+With --limits days of a second family, in each of these sizes, none of them wild: one to three
+limits on the number of stations in a block, of any op, near the mean number or one or two off
+it, so that some bind and some contradict each other; few blocks are named by a row, stations
+are of a few close sizes, two to seven of them are optional (of small days up to three). Without
+--small or --middle half of the days are a hospital's (10 to 30 stations, 3 to 8 blocks), half
+scaled (20 to 40 stations, 6 to 10 blocks).
 
 For each day NAME, which tells its number, C, S and H:
 NAME.day    the day file
@@ -254,6 +261,111 @@ def real_day(draws, size):
     return Made(slots, choosers, stations, draws.shuffled(rows)[:MOST_GIVEN])
 
 
+# Days with limits on blocks.
+
+
+def limited_bounds(draws, size):
+    """The bounds of C, S and H; half of the days of real size are a hospital's, half scaled."""
+    if size == "small":
+        return (4, 7), (2, 4), (10, 24)
+    if size == "middle":
+        return (8, 18), (3, 6), (10, 40)
+    return draws.pick([((10, 30), (3, 8), (10, 60)), ((20, 40), (6, 10), (10, 60))])
+
+
+def limited_counts(draws, size):
+    """C, S and H within their bounds, two to five stations a block."""
+    bounds = limited_bounds(draws, size)
+    while True:
+        choices, slots, choosers = (draws.between(*pair) for pair in bounds)
+        # Small days may be one station short of two a block, or none would have 4 blocks.
+        if 2 * slots <= choices + (size == "small") and choices <= 5 * slots:
+            return choices, slots, choosers
+
+
+def close_maximums(draws, choices, need):
+    """Maximums of a few close sizes, the biggest most often, together 1.1 to 1.8 times what the blocks need."""
+    while True:
+        sizes = [draws.between(85, 130) for _ in range(draws.between(2, 5))]
+        drawn = [draws.pick(sizes + [max(sizes)]) for _ in range(choices)]
+        scale = need * draws.between(110, 180) / 100 / sum(drawn)
+        maxs = [round(size * scale) for size in drawn]
+        if 110 * need <= 100 * sum(maxs) <= 180 * need:
+            return maxs
+
+
+def few_minimums(draws, maxs, need):
+    """Minimums of a few values, 0 among them, together 0.15 to 0.35 of what the blocks need."""
+    while True:
+        values = [0, 1, 2, draws.between(4, 6)]
+        drawn = [draws.pick(values) for _ in maxs]
+        scale = need * draws.between(15, 35) / 100 / max(1, sum(drawn))
+        mins = [min(size, round(value * scale)) for size, value in zip(maxs, drawn)]
+        if 15 * need <= 100 * sum(mins) <= 35 * need:
+            return mins
+
+
+def filled_plan(draws, maxs, slots, choosers):
+    """A placement that fills one block after the other, the biggest stations first, and has the rest anywhere."""
+    plan, lacks = [0] * len(maxs), [choosers] * slots
+    for choice in sorted(range(len(maxs)), key=lambda one: -maxs[one]):
+        open_slots = [slot for slot in range(slots) if lacks[slot] > 0]
+        plan[choice] = open_slots[0] if open_slots else draws.below(slots)
+        lacks[plan[choice]] -= maxs[choice]
+    names = draws.shuffled(range(slots))
+    return [names[slot] for slot in plan]
+
+
+def near_limit(draws, choices, slots, slot):
+    """A limit of any op at the mean number of stations in a block, or one or two off it."""
+    mean = draws.pick([choices // slots, -(-choices // slots)])
+    limit = max(0, mean + draws.pick([-2, -1, -1, 0, 0, 0, 0, 0, 1, 1, 1, 2]))
+    return LIMIT, slot, limit, draws.pick([EQ, NEQ, GT, LT, GEQ, LEQ])
+
+
+def kept_limit(draws, choices, slots, slot, plan):
+    """A limit near the mean; where a plan is given, one that it keeps."""
+    while True:
+        limit = near_limit(draws, choices, slots, slot)
+        if plan is None or kept_by(plan, [limit]):
+            return limit
+
+
+def few_wishes(draws, choices, named):
+    """A few rows of the kinds 1 to 5; those that name a block name one of these."""
+    yield from [pair for room in rooms(draws, choices) for pair in room][:9]
+    for _ in range(draws.pick([0, 0, 1])):
+        yield (SAME_SLOT, *draws.shuffled(range(choices))[:2], 0)
+    for _ in range(draws.pick([0, 0, 1, 1, 2])):
+        yield (OFFSET, *draws.shuffled(range(choices))[:2], draws.pick([1, 1, 2]))
+    for _ in range(draws.pick([0, 0, 1, 1, 2, 3])):
+        yield (IN_SLOT, draws.below(choices), draws.pick(named), 0)
+    for _ in range(draws.pick([0, 0, 1, 2, 3, draws.between(4, 7)])):
+        yield (NOT_IN_SLOT, draws.below(choices), draws.pick(named), 0)
+
+
+def limited_rows(draws, choices, slots, plan):
+    """One to three limits on blocks and a few other rows; where a plan is given, such as it keeps."""
+    named = [draws.below(slots) for _ in range(draws.between(1, 3))]
+    rows = [kept_limit(draws, choices, slots, slot, plan) for slot in named]
+    # The other rows name one block more at most, so that most blocks stay interchangeable.
+    wished = few_wishes(draws, choices, named + [draws.below(slots)])
+    return rows + [wish for wish in wished if plan is None or kept_by(plan, [wish])]
+
+
+def limited_day(draws, size):
+    """A day with limits on blocks; a third of them, of smaller ones two thirds, has rows that a drawn plan keeps."""
+    choices, slots, choosers = limited_counts(draws, size)
+    maxs = close_maximums(draws, choices, slots * choosers)
+    mins = few_minimums(draws, maxs, slots * choosers)
+    many = draws.below(4) if size == "small" else draws.between(2, min(7, choices // 3))
+    optional = draws.shuffled(range(choices))[:many]
+    stations = [[least, most, int(choice in optional)] for choice, (least, most) in enumerate(zip(mins, maxs))]
+    around = draws.chance(0.33 if size == "real" else 0.67)
+    plan = filled_plan(draws, maxs, slots, choosers) if around else None
+    return Made(slots, choosers, stations, draws.shuffled(limited_rows(draws, choices, slots, plan)))
+
+
 # Wild small days.
 
 
@@ -331,8 +443,10 @@ def plans_text(plans):
 # Files.
 
 
-def made_day(draws, size):
-    """The next day of this size as a day file."""
+def made_day(draws, size, limited=False):
+    """The next day of this size as a day file, of the first family or of the one with limits."""
+    if limited:
+        return day_file(draws, limited_day(draws, size))
     wild = size == "small" and draws.chance(0.33)
     return day_file(draws, wild_day(draws) if wild else real_day(draws, size))
 
@@ -350,13 +464,15 @@ def write_day(folder, number, content, size):
 
 def main():
     arguments = [word for word in sys.argv[1:] if not word.startswith("--")]
-    sizes = [word[2:] for word in sys.argv[1:] if word.startswith("--")] or ["real"]
+    options = [word[2:] for word in sys.argv[1:] if word.startswith("--")]
+    limited = "limits" in options
+    sizes = [word for word in options if word != "limits"] or ["real"]
     if len(arguments) != 3 or sizes not in (["small"], ["middle"], ["real"]):
         sys.exit(__doc__.strip())
     folder, draws = Path(arguments[0]), Draws(int(arguments[2]))
     folder.mkdir(parents=True, exist_ok=True)
     for number in range(int(arguments[1])):
-        write_day(folder, number, made_day(draws, sizes[0]), sizes[0])
+        write_day(folder, number, made_day(draws, sizes[0], limited), sizes[0])
 
 
 if __name__ == "__main__":
