@@ -202,6 +202,77 @@ def random_case(draws):
     return body(file, first, room, settling(file, budget))
 
 
+def in_turns(budget, slots, choosers, stations, rows=()):
+    """A day with fewer turns than nodes; its stations are mandatory but for those with a third number."""
+    return body(file_of(slots, choosers, [(station + (0,))[:3] for station in stations], rows), budget=budget)
+
+
+# Ten stations for three blocks of 12: by their maximums a block takes three at least.
+TEN = [(3, most) for most in [4, 5, 4, 6, 4, 5, 4, 4, 5, 4]]
+
+
+def kept_by_counts():
+    """Limits that no count of a block keeps, and stations that a limit leaves no place in a block."""
+    # More than three and at most three; not three and at most three. 1 start, and 16,052 if the two aren't compared.
+    yield in_turns(50, 3, 12, TEN, [(6, 1, 3, OPS["Gt"]), (6, 1, 3, OPS["Leq"])])
+    yield in_turns(50, 3, 12, TEN, [(6, 0, 3, OPS["Neq"]), (6, 0, 3, OPS["Leq"])])
+    # The same with plans of two in the block: 1,178 starts, and 3,325.
+    stations = [(6, 10), (7, 7), (4, 5), (3, 5), (4, 5), (4, 4), (4, 6), (5, 6), (2, 4), (4, 5)]
+    yield in_turns(2_400, 3, 15, stations, [(6, 1, 3, OPS["Neq"]), (6, 1, 3, OPS["Leq"])])
+    # Blocks of two, which leaves the small ones to the third, and these are too many: 1 start, and 22,114 if they stay.
+    yield in_turns(50, 3, 12, [(3, 6)] * 4 + [(3, 3)] * 6, [(6, 0, 2, OPS["Leq"]), (6, 1, 3, OPS["Lt"])])
+    # The same with plans: 118 starts, and 2,161; 355 starts, and 5,420.
+    stations = [(6, 7, 1), (6, 6), (8, 8), (6, 6), (4, 5), (4, 5), (4, 4), (3, 4), (4, 5), (7, 8)]
+    yield in_turns(300, 3, 16, stations, [(6, 0, 2, OPS["Leq"])])
+    stations = [(2, 3), (2, 4), (2, 4, 1), (4, 4), (3, 4), (6, 7), (3, 3), (4, 4), (5, 5), (3, 3)]
+    yield in_turns(800, 3, 12, stations, [(6, 0, 4, OPS["Lt"]), (6, 2, 3, OPS["Lt"])])
+
+
+def kept_by_weights():
+    """A block that must take more stations than fill it: so many, even the lightest, leave too little for the rest."""
+    # 1 start, and 1,548 if the number isn't weighed.
+    yield in_turns(50, 3, 12, [(3, 7), (3, 5), (3, 4), (3, 4)] + [(2, 3)] * 6, [(6, 0, 5, OPS["Geq"])])
+    # With plans: 20 starts, 6,056, and 2,365 if it isn't weighed with a station put there; 27, 9,703 and 2,371.
+    stations = [(2, 5), (3, 4), (2, 4), (4, 4), (5, 7), (4, 5), (3, 4), (5, 8), (4, 5), (4, 5)]
+    yield in_turns(100, 3, 15, stations, [(6, 2, 5, OPS["Geq"])])
+    stations = [(4, 5), (3, 4), (2, 4), (4, 4), (4, 7), (4, 4), (2, 5), (5, 8), (4, 5), (3, 5)]
+    yield in_turns(100, 3, 15, stations, [(6, 0, 4, OPS["Gt"])])
+
+
+def kept_by_twins():
+    """Four blocks that are alike: a station that has no plan in one has none in the others."""
+    # 107 starts, and 5,049 if each block is tried.
+    stations = [(4, 4)] * 3 + [(5, 7), (3, 5), (7, 9), (3, 3), (3, 5), (4, 6), (3, 4), (5, 7), (3, 5)]
+    yield in_turns(250, 4, 10, stations)
+    # All but the last alike, with plans: 1,471 starts, and 8,516.
+    stations = [(3, 7), (7, 7), (4, 4), (9, 9), (4, 4), (4, 4), (5, 5), (4, 5), (7, 8), (5, 5), (6, 8)]
+    yield in_turns(3_000, 4, 15, stations, [(6, 3, 4, OPS["Eq"])])
+    # An offset from the first station tells one block from the others, not all of them: 316 starts, and 1,594.
+    stations = [(4, 4)] * 3 + [(5, 5), (3, 4), (3, 3), (2, 6), (2, 2), (2, 4), (7, 8), (3, 5), (2, 3)]
+    yield in_turns(700, 4, 9, stations, [(5, 0, 9, 1)])
+
+
+def kept_by_own_rows():
+    """A row that joins a choice to itself, and leaves it omission alone."""
+    # A mandatory one: 1 start, and 6,252 by kind 4, 10,501 by kind 5 if only whole plans are tested.
+    yield in_turns(50, 3, 12, TEN, [(4, 6, 6, 0)])
+    yield in_turns(50, 3, 12, TEN, [(5, 6, 6, 1)])
+    # An optional one, with plans: 154 starts, and 1,668; 322 starts, and 3,568.
+    stations = [(2, 3), (4, 4), (3, 3), (5, 5), (5, 5, 1), (3, 3), (3, 4), (4, 4), (2, 3), (7, 7)]
+    yield in_turns(350, 3, 12, stations, [(5, 4, 4, -1)])
+    stations = [(3, 3), (4, 4), (5, 5), (3, 3), (6, 6), (2, 3), (3, 3), (2, 3), (6, 6), (4, 4, 1)]
+    yield in_turns(700, 3, 12, stations, [(4, 9, 9, 0), (6, 2, 4, OPS["Geq"])])
+
+
+def kept_by_rules():
+    """Days with fewer turns than nodes: about twice as many as the walk needs, and too few for one without the rule.
+    How many starts it visits, with the rule and without it, stands beside each."""
+    yield from kept_by_counts()
+    yield from kept_by_weights()
+    yield from kept_by_twins()
+    yield from kept_by_own_rows()
+
+
 def committed(draws):
     yield from around(day_file.sample())
     yield from around(two_of_two())
@@ -215,3 +286,4 @@ def committed(draws):
     yield from long_texts()
     for _ in range(400):
         yield random_case(draws)
+    yield from kept_by_rules()

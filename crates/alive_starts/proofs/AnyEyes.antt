@@ -1,22 +1,22 @@
 -- Whatever the eyes, if they are safe, the walk meets the plans of request 03, each once and in dictionary order.
 use mathlib.Core.Path.{_≡_, refl, sym, ap, _∙_}
 use mathlib.Core.Bool.{Bool, true, false, cond, false≢true}
-use mathlib.Core.List.{List, [], _∷_, _++_, map, flatMap, append-nil, List·Memᴰ, List·Memᴰ·head, List·Memᴰ·tail}
+use mathlib.Core.List.{List, [], _∷_, _++_, map, append-nil, List·Memᴰ, List·Memᴰ·head, List·Memᴰ·tail, List·Memᴰ·not-nil}
 use Prim.Native.Nat.{ℕ, zero, suc, _+_}
 use native.Mathlib.Omega.{arith}
-use lib.ListN.{length, length-append}
+use lib.ListN.{length, drop, length-append}
 use Rattle.lists.specs.Keep.{keep}
-use Rattle.lists.proofs.Keep.{flatMap-ext}
+use Rattle.lists.proofs.Keep.{in-map, map-in, in-flatMap, kept-in, in-kept}
 use Rattle.scheduling.specs.Day.{Day}
 use Rattle.scheduling.specs.Feasible.{feasible}
 use Rattle.listing_nodes.specs.Placements.{places, placements, plans}
 use Rattle.listing_nodes.specs.steps.Walk.{ifFeasible}
-use Rattle.listing_nodes.proofs.Members.{placement-length}
+use Rattle.listing_nodes.proofs.Members.{placement-length, feasible-listed}
 use Rattle.listing_nodes.proofs.WholeLaws.{after, spread, map-same}
-use Rattle.alive_starts.specs.Alive.{plan, plansIn, Eyes, events, Safe}
-use Rattle.alive_starts.proofs.EventLaws.{plans-flatMap, plans-told}
+use Rattle.alive_starts.specs.Alive.{Event, plan, plansIn, passing, Eyes, events, Safe}
+use Rattle.alive_starts.proofs.EventLaws.{passing-plans, plans-told}
 
-not-true-false : (b : Bool) → (b ≡ true → ⊥) → b ≡ false
+pub not-true-false : (b : Bool) → (b ≡ true → ⊥) → b ≡ false
 not-true-false true h = absurd (h refl)
 not-true-false false h = refl
 
@@ -39,6 +39,32 @@ none-after day n start b f e h =
     not-true-false (feasible day (start ++ rest)) λ t.
     false≢true (sym f ∙ h rest (length-append start rest ∙ ap (λ (k : ℕ). length start + k) (placement-length (day .counts .slots) n rest m) ∙ e) t)
 
+-- what is left of a placement without its first places is one
+rest-placed : (slots n size : ℕ) (start rest : List ℕ) → length start + n ≡ size → List·Memᴰ (start ++ rest) (placements slots size) → List·Memᴰ rest (placements slots n)
+unfolding placements
+rest-placed slots n size [] rest e m =
+    let k : size ≡ n = omega arith in
+    rw k at m
+rest-placed slots n zero (place ∷ start) rest e m = absurd (omega arith)
+rest-placed slots n (suc size) (place ∷ start) rest e m =
+    let r = in-flatMap (λ first. map (λ rest. first ∷ rest) (placements slots size)) (places slots) (place ∷ (start ++ rest)) m in
+    let q = in-map (λ rest. r .0 ∷ rest) (placements slots size) (place ∷ (start ++ rest)) (r .2) in
+    rest-placed slots n size start rest (omega arith) (rw (ap (drop 1) (q .2)) (q .1))
+
+-- where no placement that goes on from a start is feasible, no plan that does is
+none-feasible : (day : Day) (n : ℕ) (start : List ℕ) → length start + n ≡ day .counts .choices → keep (feasible day) (after (day .counts .slots) start n) ≡ []
+    → (rest : List ℕ) → length (start ++ rest) ≡ day .counts .choices → feasible day (start ++ rest) ≡ false
+unfolding plans
+none-feasible day n start e k rest l =
+    not-true-false (feasible day (start ++ rest)) λ t.
+    let slots = day .counts .slots in
+    let placed = kept-in (feasible day) (placements slots (day .counts .choices)) (start ++ rest) (feasible-listed day (start ++ rest) l t) .0 in
+    List·Memᴰ·not-nil
+    (rw k at
+    (in-kept (feasible day) (after slots start n) (start ++ rest)
+    (map-in (λ rest. start ++ rest) (placements slots n) rest (rest-placed slots n (day .counts .choices) start rest e placed))
+    t))
+
 module _ (day : Day) {X : Type 0} (eyes : Eyes X) {Holds : List ℕ → X → Type 0} (safe : Safe day eyes Holds) where
   -- from any start on: the plans that begin with it
   pub plans-met : (n : ℕ) (start : List ℕ) (x : X) → Holds start x → length start + n ≡ day .counts .choices
@@ -51,24 +77,31 @@ module _ (day : Day) {X : Type 0} (eyes : Eyes X) {Holds : List ℕ → X → Ty
       go false f = sym (none-after day 0 start (eyes .worth start x) f e λ rest l t. safe .worth start rest x h l t)
   plans-met (suc n) start x h e = go (eyes .worth start x) refl λ place o. plans-met n (start ++ (place ∷ [])) (eyes .next start x place) (safe .next start place x h (omega arith) o) (next-length start place n (day .counts .choices) e)
     where
-      -- the plans that go on with a place
+      -- what happens at a place, and the plans that go on with it
+      at : ℕ → List Event
+      at place = events day eyes n (start ++ (place ∷ [])) (eyes .next start x place)
+
       there : ℕ → List (List ℕ)
       there place = keep (feasible day) (after (day .counts .slots) (start ++ (place ∷ [])) n)
 
-      at : (place : ℕ) (b : Bool) → eyes .opens start x place ≡ b
-          → (eyes .opens start x place ≡ true → plansIn (events day eyes n (start ++ (place ∷ [])) (eyes .next start x place)) ≡ there place)
-          → plansIn (cond b (events day eyes n (start ++ (place ∷ [])) (eyes .next start x place)) []) ≡ there place
-      at place true o ih = ih o
-      at place false o ih =
-          sym (none-after day n (start ++ (place ∷ [])) (eyes .opens start x place) o (next-length start place n (day .counts .choices) e) λ rest l t.
-          safe .opens start rest place x h l t)
+      size : (place : ℕ) → length (start ++ (place ∷ [])) + n ≡ day .counts .choices
+      size place = next-length start place n (day .counts .choices) e
 
-      go : (b : Bool) → eyes .worth start x ≡ b
-          → ((place : ℕ) → eyes .opens start x place ≡ true → plansIn (events day eyes n (start ++ (place ∷ [])) (eyes .next start x place)) ≡ there place)
-          → plansIn (cond b (flatMap (λ place. cond (eyes .opens start x place) (events day eyes n (start ++ (place ∷ [])) (eyes .next start x place)) []) (places (day .counts .slots))) []) ≡ keep (feasible day) (after (day .counts .slots) start (suc n))
+      shut : (place : ℕ) → eyes .opens start x place ≡ false → there place ≡ []
+      shut place o =
+          none-after day n (start ++ (place ∷ [])) (eyes .opens start x place) o (size place) λ rest l t.
+          safe .opens start rest place x h l t
+
+      twins : (place later : ℕ) → eyes .opens start x place ≡ true → eyes .opens start x later ≡ true → eyes .twin start x place later ≡ true → there place ≡ [] → there later ≡ []
+      twins place later o p t k =
+          keep-none (feasible day) (λ rest. (start ++ (later ∷ [])) ++ rest) (placements (day .counts .slots) n) λ rest m.
+          safe .twin start place later x h (omega arith) o p t (none-feasible day n (start ++ (place ∷ [])) (size place) k) rest
+          (length-append (start ++ (later ∷ [])) rest ∙ ap (λ (k : ℕ). length (start ++ (later ∷ [])) + k) (placement-length (day .counts .slots) n rest m) ∙ size later)
+
+      go : (b : Bool) → eyes .worth start x ≡ b → ((place : ℕ) → eyes .opens start x place ≡ true → plansIn (at place) ≡ there place)
+          → plansIn (cond b (passing at (eyes .twin start x) (eyes .opens start x) (places (day .counts .slots))) []) ≡ keep (feasible day) (after (day .counts .slots) start (suc n))
       go true t ih =
-          plans-flatMap (λ place. cond (eyes .opens start x place) (events day eyes n (start ++ (place ∷ [])) (eyes .next start x place)) []) (places (day .counts .slots))
-          ∙ flatMap-ext (λ place. plansIn (cond (eyes .opens start x place) (events day eyes n (start ++ (place ∷ [])) (eyes .next start x place)) [])) there (places (day .counts .slots)) (λ place. at place (eyes .opens start x place) refl (ih place))
+          passing-plans at (eyes .twin start x) there (eyes .opens start x) (places (day .counts .slots)) ih shut twins
           ∙ sym (spread (day .counts .slots) (feasible day) start n)
       go false f ih = sym (none-after day (suc n) start (eyes .worth start x) f e λ rest l t. safe .worth start rest x h l t)
 

@@ -1,15 +1,15 @@
 -- Days that judge every plan from a start on alike have the same events there, seen by the same eyes.
-use mathlib.Core.Path.{_≡_, refl, sym, ap, _∙_}
-use mathlib.Core.Bool.{Bool, true, false, cond}
-use mathlib.Core.List.{List, [], _∷_, _++_, map, flatMap, append-nil}
+use mathlib.Core.Path.{_≡_, sym, ap, _∙_}
+use mathlib.Core.Bool.{Bool, cond}
+use mathlib.Core.List.{List, [], _∷_, _++_, map, append-nil}
 use Prim.Native.Nat.{ℕ, zero, suc}
 use lib.Seq.{append-snoc}
-use Rattle.lists.proofs.Keep.{flatMap-ext}
 use Rattle.scheduling.specs.Day.{Day}
 use Rattle.scheduling.specs.Feasible.{feasible}
 use Rattle.listing_nodes.specs.Placements.{places}
 use Rattle.listing_nodes.specs.steps.Walk.{ifFeasible}
-use Rattle.alive_starts.specs.Alive.{Event, visit, plan, Eyes, events}
+use Rattle.alive_starts.specs.Alive.{Event, visit, plan, passing, Eyes, events}
+use Rattle.alive_starts.proofs.EventLaws.{passing-same}
 
 -- every plan that goes on from the start is judged alike
 unfoldable pub Alike : Day → Day → List ℕ → Type 0
@@ -30,10 +30,7 @@ module _ (one other : Day) {X : Type 0} (eyes : Eyes X) (slots : one .counts .sl
       ap (λ (b : Bool). visit ∷ cond (eyes .worth start x) (map plan (cond b (start ∷ []) [])) []) h
   events-same (suc n) start x a =
       ap (λ (l : List Event). visit ∷ cond (eyes .worth start x) l [])
-      (flatMap-ext
-      (λ place. cond (eyes .opens start x place) (events one eyes n (start ++ (place ∷ [])) (eyes .next start x place)) [])
-      (λ place. cond (eyes .opens start x place) (events other eyes n (start ++ (place ∷ [])) (eyes .next start x place)) [])
-      (places (one .counts .slots)) (λ place.
-      ap (λ (l : List Event). cond (eyes .opens start x place) l [])
-      (events-same n (start ++ (place ∷ [])) (eyes .next start x place) (alike-next one other start place a)))
-      ∙ ap (λ (s : ℕ). flatMap (λ place. cond (eyes .opens start x place) (events other eyes n (start ++ (place ∷ [])) (eyes .next start x place)) []) (places s)) slots)
+      (passing-same (λ place. events one eyes n (start ++ (place ∷ [])) (eyes .next start x place)) (λ place. events other eyes n (start ++ (place ∷ [])) (eyes .next start x place))
+      (eyes .twin start x) (eyes .opens start x) (places (one .counts .slots))
+      (λ place o. events-same n (start ++ (place ∷ [])) (eyes .next start x place) (alike-next one other start place a))
+      ∙ ap (λ (s : ℕ). passing (λ place. events other eyes n (start ++ (place ∷ [])) (eyes .next start x place)) (eyes .twin start x) (eyes .opens start x) (places s)) slots)

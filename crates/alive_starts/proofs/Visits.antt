@@ -1,26 +1,29 @@
 -- Safe eyes visit no more starts than request 03 has nodes: where those are within a budget, turns never run out.
-use mathlib.Core.Path.{_≡_, refl, sym, ap}
+use mathlib.Core.Path.{_≡_, sym, ap}
 use mathlib.Core.Bool.{Bool, true, false, cond}
-use mathlib.Core.List.{List, [], _∷_, _++_, map, flatMap}
+use mathlib.Core.List.{List, [], _∷_, _++_, map}
 use Prim.Native.Nat.{ℕ, zero, suc, _+_, _≤_}
 use native.Mathlib.Omega.{arith}
 use lib.ListN.{length}
 use Rattle.lists.specs.Keep.{keep, sumOver}
-use Rattle.lists.proofs.Keep.{length-flatMap, sumOver-le}
 use Rattle.lists.proofs.SumBelow.{sum-ext}
 use Rattle.scheduling.specs.Day.{Day}
 use Rattle.scheduling.specs.Feasible.{feasible}
 use Rattle.listing_nodes.specs.Placements.{places, placements, isNode, nodes}
 use Rattle.listing_nodes.specs.steps.Walk.{ifFeasible}
 use Rattle.listing_nodes.proofs.WholeLaws.{nodesOf, nodesUpTo, nodes-last, nodes-more, map-same}
-use Rattle.alive_starts.specs.Alive.{Event, visit, plan, plansIn, visitsIn, Eyes, events, Safe}
-use Rattle.alive_starts.proofs.EventLaws.{plans-flatMap, visits-flatMap, visits-told}
+use Rattle.alive_starts.specs.Alive.{Event, plan, plansIn, visitsIn, passing, Eyes, events, Safe}
+use Rattle.alive_starts.proofs.EventLaws.{passing-visits, passing-costs, visits-told}
 use Rattle.alive_starts.proofs.AnyEyes.{next-length}
 
 module _ (day : Day) {X : Type 0} (eyes : Eyes X) where
-  -- what a place's walk adds
+  -- what happens at a place
   abbrev there : ℕ → List ℕ → X → ℕ → List Event
-  there n start x place = cond (eyes .opens start x place) (events day eyes n (start ++ (place ∷ [])) (eyes .next start x place)) []
+  there n start x place = events day eyes n (start ++ (place ∷ [])) (eyes .next start x place)
+
+  -- and at all those that are open, but for twins
+  abbrev all : ℕ → List ℕ → X → List Event
+  all n start x = passing (there n start x) (eyes .twin start x) (eyes .opens start x) (places (day .counts .slots))
 
   module _ {Holds : List ℕ → X → Type 0} (safe : Safe day eyes Holds) where
     -- from any start on
@@ -37,21 +40,13 @@ module _ (day : Day) {X : Type 0} (eyes : Eyes X) where
         (go (eyes .worth start x) λ place o.
         visits-within n (start ++ (place ∷ [])) (eyes .next start x place) (safe .next start place x h (omega arith) o) (next-length start place n (day .counts .choices) e))
       where
-        at : (place : ℕ) (b : Bool) → eyes .opens start x place ≡ b
-            → (eyes .opens start x place ≡ true → visitsIn (events day eyes n (start ++ (place ∷ [])) (eyes .next start x place)) ≤ nodesUpTo day (start ++ (place ∷ [])) n)
-            → visitsIn (cond b (events day eyes n (start ++ (place ∷ [])) (eyes .next start x place)) []) ≤ nodesUpTo day (start ++ (place ∷ [])) n
-        at place true o ih = ih o
-        at place false o ih = omega arith
-
-        go : (b : Bool)
-            → ((place : ℕ) → eyes .opens start x place ≡ true → visitsIn (events day eyes n (start ++ (place ∷ [])) (eyes .next start x place)) ≤ nodesUpTo day (start ++ (place ∷ [])) n)
-            → suc (visitsIn (cond b (flatMap (there n start x) (places (day .counts .slots))) [])) ≤ suc (sumOver (λ place. nodesUpTo day (start ++ (place ∷ [])) n) (places (day .counts .slots)))
+        go : (b : Bool) → ((place : ℕ) → eyes .opens start x place ≡ true → visitsIn (there n start x place) ≤ nodesUpTo day (start ++ (place ∷ [])) n)
+            → suc (visitsIn (cond b (all n start x) [])) ≤ suc (sumOver (λ place. nodesUpTo day (start ++ (place ∷ [])) n) (places (day .counts .slots)))
         go true ih =
-            rw (visits-flatMap (there n start x) (places (day .counts .slots)))
-            (omega (
+            omega (
               arith,
-              sumOver-le (λ place. visitsIn (there n start x place)) (λ place. nodesUpTo day (start ++ (place ∷ [])) n) (places (day .counts .slots)) (λ place. at place (eyes .opens start x place) refl (ih place)),
-            ))
+              passing-visits (there n start x) (eyes .twin start x) (λ place. nodesUpTo day (start ++ (place ∷ [])) n) (eyes .opens start x) (places (day .counts .slots)) ih,
+            )
         go false ih = omega arith
 
     -- from the empty start on
@@ -75,19 +70,7 @@ module _ (day : Day) {X : Type 0} (eyes : Eyes X) where
       go false p = omega arith
   plans-cost-turns (suc n) start x = go (eyes .worth start x) λ place. plans-cost-turns n (start ++ (place ∷ [])) (eyes .next start x place)
     where
-      at : (place : ℕ) (b : Bool)
-          → length (plansIn (events day eyes n (start ++ (place ∷ [])) (eyes .next start x place))) ≤ visitsIn (events day eyes n (start ++ (place ∷ [])) (eyes .next start x place))
-          → length (plansIn (cond b (events day eyes n (start ++ (place ∷ [])) (eyes .next start x place)) [])) ≤ visitsIn (cond b (events day eyes n (start ++ (place ∷ [])) (eyes .next start x place)) [])
-      at place true ih = ih
-      at place false ih = omega arith
-
-      go : (b : Bool)
-          → ((place : ℕ) → length (plansIn (events day eyes n (start ++ (place ∷ [])) (eyes .next start x place))) ≤ visitsIn (events day eyes n (start ++ (place ∷ [])) (eyes .next start x place)))
-          → length (plansIn (cond b (flatMap (there n start x) (places (day .counts .slots))) [])) ≤ suc (visitsIn (cond b (flatMap (there n start x) (places (day .counts .slots))) []))
-      go true ih =
-          rw (plans-flatMap (there n start x) (places (day .counts .slots)), visits-flatMap (there n start x) (places (day .counts .slots)), length-flatMap (λ place. plansIn (there n start x place)) (places (day .counts .slots)))
-          (omega (
-            arith,
-            sumOver-le (λ place. length (plansIn (there n start x place))) (λ place. visitsIn (there n start x place)) (places (day .counts .slots)) (λ place. at place (eyes .opens start x place) (ih place)),
-          ))
+      go : (b : Bool) → ((place : ℕ) → length (plansIn (there n start x place)) ≤ visitsIn (there n start x place))
+          → length (plansIn (cond b (all n start x) [])) ≤ suc (visitsIn (cond b (all n start x) []))
+      go true ih = omega (arith, passing-costs (there n start x) (eyes .twin start x) (eyes .opens start x) (places (day .counts .slots)) ih)
       go false ih = omega arith

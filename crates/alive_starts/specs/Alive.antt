@@ -1,7 +1,7 @@
 -- The starts of a day's plans, walked in dictionary order by any eyes: what the walk carries along tells which starts are worth going on from.
 use mathlib.Core.Path.{_≡_}
-use mathlib.Core.Bool.{Bool, true, cond}
-use mathlib.Core.List.{List, [], _∷_, _++_, map, flatMap}
+use mathlib.Core.Bool.{Bool, true, false, _&&_, not, cond}
+use mathlib.Core.List.{List, [], _∷_, _++_, map}
 use Prim.Native.Nat.{ℕ, zero, suc, _<_}
 use lib.ListN.{length}
 use Rattle.scheduling.specs.Day.{Day}
@@ -26,11 +26,25 @@ visitsIn [] = 0
 visitsIn (visit ∷ es) = suc (visitsIn es)
 visitsIn (plan p ∷ es) = visitsIn es
 
--- the eyes of a walk that carries an X: whether a start is worth going on from, whether its next choice may take a place, and what is carried there
+-- no plan is among them
+unfoldable pub isNone : List (List ℕ) → Bool
+isNone [] = true
+isNone (p ∷ plans) = false
+
+-- what happens at each of these places that is open; once one has met no plan, its twins among the later ones are passed over
+unfoldable pub passing : (ℕ → List Event) → (ℕ → ℕ → Bool) → (ℕ → Bool) → List ℕ → List Event
+passing at twin opens [] = []
+passing at twin opens (place ∷ rest) =
+    cond (opens place) (at place ++ passing at twin (λ later. opens later && not (isNone (plansIn (at place)) && twin place later)) rest)
+    (passing at twin opens rest)
+
+-- the eyes of a walk that carries an X: whether a start is worth going on from, whether its next choice may take a place, what is carried there,
+-- and whether a later place may be passed over once a first one has met no plan
 pub record Eyes (X : Type 0) : Type 0 where
   pub worth : List ℕ → X → Bool
   pub opens : List ℕ → X → ℕ → Bool
   pub next : List ℕ → X → ℕ → X
+  pub twin : List ℕ → X → ℕ → ℕ → Bool
 
 module _ (day : Day) {X : Type 0} (eyes : Eyes X) where
   -- the walk from a start on with so many choices left; the plan check judges every full start
@@ -39,7 +53,7 @@ module _ (day : Day) {X : Type 0} (eyes : Eyes X) where
   events (suc n) start x =
       visit
       ∷ cond (eyes .worth start x)
-      (flatMap (λ place. cond (eyes .opens start x place) (events n (start ++ (place ∷ [])) (eyes .next start x place)) []) (places (day .counts .slots)))
+      (passing (λ place. events n (start ++ (place ∷ [])) (eyes .next start x place)) (eyes .twin start x) (eyes .opens start x) (places (day .counts .slots)))
       []
 
   -- eyes are safe if something that holds of what is carried keeps every feasible plan in sight, and every start that is visited is a node of request 03
@@ -51,3 +65,7 @@ module _ (day : Day) {X : Type 0} (eyes : Eyes X) where
         → feasible day ((start ++ (place ∷ [])) ++ rest) ≡ true → eyes .opens start x place ≡ true
     pub next : (start : List ℕ) (place : ℕ) (x : X) → Holds start x → length start < day .counts .choices → eyes .opens start x place ≡ true
         → Holds (start ++ (place ∷ [])) (eyes .next start x place)
+    pub twin : (start : List ℕ) (place later : ℕ) (x : X) → Holds start x → length start < day .counts .choices → eyes .opens start x place ≡ true → eyes .opens start x later ≡ true
+        → eyes .twin start x place later ≡ true
+        → ((rest : List ℕ) → length ((start ++ (place ∷ [])) ++ rest) ≡ day .counts .choices → feasible day ((start ++ (place ∷ [])) ++ rest) ≡ false)
+        → (rest : List ℕ) → length ((start ++ (later ∷ [])) ++ rest) ≡ day .counts .choices → feasible day ((start ++ (later ∷ [])) ++ rest) ≡ false

@@ -1,18 +1,21 @@
--- How many choices each slot has at least, and what that leaves of the domains: the free choices that the slots still need are different ones.
-use mathlib.Core.Bool.{Bool, _&&_, not, cond}
+-- How many choices each slot has at least and fewer than how many, and what that leaves of the domains: a slot takes no choice that it has no room for, and the free choices that the slots want are different ones.
+use mathlib.Core.Bool.{Bool, true, false, _&&_, not, cond}
 use mathlib.Core.List.{List, [], _∷_}
-use Prim.Native.Nat.{ℕ, zero, suc, _+_, _-_, max}
+use Prim.Native.Nat.{ℕ, zero, suc, _+_, _-_, max, min}
 use lib.Dec.{eqb, ltb, leb}
-use lib.ListN.{length, getD, set, replicate}
-use Rattle.lists.specs.Below.{countBelow, sumBelow}
-use Rattle.constraint.specs.Op.{eqOp, gtOp, geqOp, neqOp}
+use lib.ListN.{getD, set, replicate}
+use Rattle.lists.specs.Below.{allBelow, countBelow, sumBelow}
+use Rattle.lists.specs.Keep.{anyOf}
+use Rattle.constraint.specs.Op.{eqOp, gtOp, geqOp, neqOp, leqOp, ltOp}
 use Rattle.constraint.specs.Row.{rowOf}
 use Rattle.constraint.specs.declared.check.Counts.{Counts}
 use Rattle.constraint.specs.declared.row.Row.{Row}
 use Rattle.choice_sets.specs.Sets.{has, setOf, sizeOf}
 use Rattle.weight_tables.specs.Tables.{tablesFit, written}
-use Rattle.place_sets.specs.Domains.{bothPlaces, eachBelow}
-use Rattle.table_rule.specs.Figures.{freeOf, firstIn, settledIn, lacksOf}
+use Rattle.place_sets.specs.Domains.{keptPlaces, bothPlaces, eachBelow}
+use Rattle.table_rule.specs.Figures.{freeOf, firstIn, settledIn}
+
+-- ---- the limits
 
 -- '6: count of choices in the slot against the limit': what a limit makes of the least count of its slot
 unfoldable pub raisedBy : ℕ → ℕ → ℕ → ℕ
@@ -23,17 +26,31 @@ raisedBy op limit count =
     (cond (eqb op neqOp) (cond (eqb count limit) (suc count) count)
     count)))
 
--- a row of kind 6 raises the least count of its slot, one of another kind none
-unfoldable pub rowRaises : Row → List ℕ → List ℕ
-rowRaises row least =
+-- and of the first count that its slot can't have
+unfoldable pub loweredBy : ℕ → ℕ → ℕ → ℕ
+loweredBy op limit under =
+    cond (eqb op eqOp) (min under (suc limit))
+    (cond (eqb op leqOp) (min under (suc limit))
+    (cond (eqb op ltOp) (min under limit)
+    under))
+
+-- a row of kind 6 changes the figure of its slot, one of another kind none
+unfoldable pub limitChanges : (ℕ → ℕ → ℕ → ℕ) → Row → List ℕ → List ℕ
+limitChanges by row figures =
     cond (eqb (row .kind) 6 && ltb (row .left) 24)
-    (set least (row .left) (raisedBy (row .extra) (row .right) (getD least (row .left) 0)))
-    least
+    (set figures (row .left) (by (row .extra) (row .right) (getD figures (row .left) 0)))
+    figures
 
 -- the rows in order
-unfoldable pub rowsRaise : List ℕ → List ℕ → List ℕ
-rowsRaise [] least = least
-rowsRaise (number ∷ rows) least = rowsRaise rows (rowRaises (rowOf number) least)
+unfoldable pub limitsChange : (ℕ → ℕ → ℕ → ℕ) → List ℕ → List ℕ → List ℕ
+limitsChange by [] figures = figures
+limitsChange by (number ∷ rows) figures = limitsChange by rows (limitChanges by (rowOf number) figures)
+
+-- whether there is a limit: without one the table of ones says as much by its own figures
+unfoldable pub hasLimit : List ℕ → Bool
+hasLimit rows = anyOf (λ number. eqb (rowOf number .kind) 6) rows
+
+-- ---- the counts
 
 -- how many settled choices stand in a slot
 unfoldable pub settledCount : ℕ → ℕ → List ℕ → ℕ → ℕ
@@ -44,38 +61,79 @@ unfoldable pub countOf : (ℕ → ℕ → ℕ → ℕ) → ℕ → ℕ → ℕ �
 countOf entry choices free from lacks domains slot = settledCount choices free domains slot + entry 0 from (getD lacks slot 0)
 
 -- and by the limits as well
-unfoldable pub leastCounts : (ℕ → ℕ → ℕ → ℕ) → Counts → List ℕ → ℕ → ℕ → List ℕ → List ℕ → List ℕ
-leastCounts entry counts rows free from lacks domains =
-    rowsRaise rows (written (counts .slots) 0 (countOf entry (counts .choices) free from lacks domains) (replicate 24 0))
+unfoldable pub leastCounts : (ℕ → ℕ → ℕ → ℕ) → Counts → List ℕ → ℕ → List ℕ → List ℕ → List ℕ
+leastCounts entry counts rows from lacks domains =
+    limitsChange raisedBy rows
+    (written (counts .slots) 0 (countOf entry (counts .choices) (freeOf (counts .choices) domains) from lacks domains) (replicate 24 0))
 
--- how many free choices a slot still needs
-unfoldable pub wanted : ℕ → ℕ → List ℕ → List ℕ → ℕ → ℕ
-wanted choices free domains least slot = getD least slot 0 - settledCount choices free domains slot
+-- the first count that a slot can't have by the limits; no limit is over 65,535
+unfoldable pub underCounts : List ℕ → List ℕ
+underCounts rows = limitsChange loweredBy rows (replicate 24 65537)
 
--- what is left of a choice's domain: nothing if all slots together need more free choices than there are, the needy slots alone if they need them all
-unfoldable pub countLeaves : ℕ → List ℕ → ℕ → List ℕ → ℕ → ℕ → ℕ
-countLeaves slots least free domains choices domain =
-    let need = sumBelow slots (wanted choices free domains least) in
+-- ---- what the counts say of the free choices
+
+-- the days that have bounds: at most 64 choices and 24 slots
+unfoldable pub boundsFit : Counts → Bool
+boundsFit counts = leb (counts .choices) 64 && leb (counts .slots) 24
+
+-- a slot's figure without the settled choices that stand there
+unfoldable pub beyondSettled : ℕ → List ℕ → List ℕ → ℕ → ℕ
+beyondSettled choices domains figures slot = getD figures slot 0 - settledCount choices (freeOf choices domains) domains slot
+
+-- how many free choices each slot has at least; of a day of another shape none
+unfoldable pub wantsOf : (ℕ → ℕ → ℕ → ℕ) → Counts → List ℕ → ℕ → List ℕ → List ℕ → List ℕ
+wantsOf entry counts rows from lacks domains =
+    cond (boundsFit counts)
+    (written (counts .slots) 0 (beyondSettled (counts .choices) domains (leastCounts entry counts rows from lacks domains)) (replicate 24 0))
+    (replicate 24 0)
+
+-- fewer than how many free choices each slot has; of a day of another shape 0, which says nothing
+unfoldable pub roomsOf : Counts → List ℕ → List ℕ → List ℕ
+roomsOf counts rows domains =
+    cond (boundsFit counts) (written (counts .slots) 0 (beyondSettled (counts .choices) domains (underCounts rows)) (replicate 24 0)) (replicate 24 0)
+
+-- some slot's least count is one that it can't have: no plan goes on from there
+unfoldable pub broken : (ℕ → ℕ → ℕ → ℕ) → Counts → List ℕ → ℕ → List ℕ → List ℕ → Bool
+broken entry counts rows from lacks domains =
+    boundsFit counts
+    && not (allBelow (counts .slots) λ slot. ltb (getD (leastCounts entry counts rows from lacks domains) slot 0) (getD (underCounts rows) slot 0))
+
+-- ---- what is left of the domains
+
+-- a free choice loses a slot that, with it and as many more as fill the rest of its lack, would have a count that it can't have
+unfoldable pub roomRule : (ℕ → ℕ → ℕ → ℕ) → List ℕ → ℕ → ℕ → List ℕ → List ℕ → ℕ → ℕ → ℕ → ℕ
+roomRule entry maxs free from lacks rooms slot choice domain =
+    cond (has free choice && leb (getD rooms slot 0) (suc (entry 0 from (getD lacks slot 0 - getD maxs choice 0))))
+    (keptPlaces domain slot false true)
+    domain
+
+-- one slot's rule for every choice: a slot that has room for all of them is lost to none
+unfoldable pub slotRule : (ℕ → ℕ → ℕ → ℕ) → ℕ → List ℕ → ℕ → ℕ → List ℕ → List ℕ → ℕ → List ℕ → List ℕ
+slotRule entry choices maxs free from lacks rooms slot domains =
+    cond (ltb 64 (getD rooms slot 0)) domains (eachBelow choices (roomRule entry maxs free from lacks rooms slot) domains)
+
+-- the first slots one after the other
+unfoldable pub roomsBelow : (ℕ → ℕ → ℕ → ℕ) → ℕ → List ℕ → ℕ → ℕ → List ℕ → List ℕ → ℕ → List ℕ → List ℕ
+roomsBelow entry choices maxs free from lacks rooms zero domains = domains
+roomsBelow entry choices maxs free from lacks rooms (suc slot) domains =
+    slotRule entry choices maxs free from lacks rooms slot (roomsBelow entry choices maxs free from lacks rooms slot domains)
+
+-- what is left of a free choice's domain: nothing if all slots together want more free choices than there are, the slots that want some if they want them all
+unfoldable pub countLeaves : ℕ → List ℕ → ℕ → ℕ → ℕ
+countLeaves slots wants free domain =
+    let need = sumBelow slots (λ slot. getD wants slot 0) in
     cond (ltb (sizeOf free) need) 0
-    (cond (eqb need (sizeOf free)) (bothPlaces domain (setOf slots λ slot. ltb 0 (wanted choices free domains least slot)))
+    (cond (eqb need (sizeOf free)) (bothPlaces domain (setOf slots λ slot. ltb 0 (getD wants slot 0)))
     domain)
 
--- the rule for the free choices, by the figures of the domains as they are
-unfoldable pub countsLeave : (ℕ → ℕ → ℕ → ℕ) → Counts → List ℕ → List ℕ → List ℕ → List ℕ
-countsLeave entry counts maxs rows domains =
-    let free = freeOf (counts .choices) domains in
-    let from = firstIn (counts .choices) free in
-    let lacks = lacksOf (counts .slots) (counts .choices) (counts .choosers) maxs free domains in
-    let least = leastCounts entry counts rows free from lacks domains in
-    eachBelow (counts .choices)
-    (λ choice domain. cond (has free choice) (countLeaves (counts .slots) least free domains (counts .choices) domain) domain)
+-- a choice that isn't free keeps its domain
+unfoldable pub wantRule : ℕ → List ℕ → ℕ → ℕ → ℕ → ℕ
+wantRule slots wants free choice domain = cond (has free choice) (countLeaves slots wants free domain) domain
+
+-- the rule, by figures that the caller has; of a day that the tables don't hold the domains stay as they are
+unfoldable pub countsRule : (ℕ → ℕ → ℕ → ℕ) → Counts → List ℕ → ℕ → List ℕ → List ℕ → List ℕ → List ℕ → List ℕ
+countsRule entry counts maxs free lacks wants rooms domains =
+    cond (tablesFit counts maxs && leb (counts .slots) 24)
+    (eachBelow (counts .choices) (wantRule (counts .slots) wants free)
+    (roomsBelow entry (counts .choices) maxs free (firstIn (counts .choices) free) lacks rooms (counts .slots) domains))
     domains
-
--- the reduction's rows are in order, so that limits stand last: without one the table of ones says as much by its own figures
-unfoldable pub endsInLimit : List ℕ → Bool
-endsInLimit rows = eqb (rowOf (getD rows (length rows - 1) 0) .kind) 6
-
--- without a limit at the end of the rows, and of a day that the tables don't hold, the domains stay as they are
-unfoldable pub countsRule : (ℕ → ℕ → ℕ → ℕ) → Counts → List ℕ → List ℕ → List ℕ → List ℕ
-countsRule entry counts maxs rows domains =
-    cond (tablesFit counts maxs && (leb (counts .slots) 24 && endsInLimit rows)) (countsLeave entry counts maxs rows domains) domains

@@ -12,14 +12,14 @@ ghost use Rattle.count_rule.specs.CountRule.{settledCount};
 ghost use Rattle.count_rule.specs.steps.Figures.{fewestIn};
 
 // A count for each of the slots that a day may have, all 0.
-fn no_counts() -> [u32; 24]
+pub(crate) fn no_counts() -> [usize; 24]
     ensures { λ r. ⌜ r ≡ replicate 24 0 ⌝ }
 {
-    [0u32; 24]
+    [0usize; 24]
 }
 
 // A settled choice is one more in its one place, if that is one of the slots.
-fn count_one(slots: usize, domain: u64, settled: &mut [u32; 24])
+fn count_one(slots: usize, domain: u64, settled: &mut [usize; 24])
     requires { ⌜ (slots ≤ 24) × ((slot : ℕ) → slot < slots → getD (now settled) slot 0 ≤ 64) ⌝ }
     ensures { λ r. ⌜ now (settled .exit) ≡ changedBy slots (λ count. count + 1) domain (now (settled .entry)) ⌝ }
 {
@@ -34,7 +34,7 @@ fn count_one(slots: usize, domain: u64, settled: &mut [u32; 24])
 }
 
 // How many settled choices stand in each slot.
-pub(crate) fn settled_counts(slots: usize, choices: usize, domains: &[u64; 64]) -> [u32; 24]
+pub(crate) fn settled_counts(slots: usize, choices: usize, domains: &[u64; 64]) -> [usize; 24]
     requires { ⌜ (slots ≤ 24) × (choices ≤ 64) ⌝ }
     ensures { λ r. ⌜ (r ≡ written slots 0 (settledCount choices (freeOf choices (now (domains .entry))) (now (domains .entry))) (replicate 24 0)) × ((slot : ℕ) → slot < slots → getD r slot 0 ≤ 64) ⌝ }
 {
@@ -47,22 +47,14 @@ pub(crate) fn settled_counts(slots: usize, choices: usize, domains: &[u64; 64]) 
     settled
 }
 
-// A count as the arrays hold it.
-fn word_of(count: usize) -> u32
-    requires { ⌜ count ≤ 65535 ⌝ }
-    ensures { λ r. ⌜ r ≡ count ⌝ }
-{
-    count as u32
-}
-
 // Each slot's settled choices with the fewest that fill its lack.
 pub(crate) fn least_counts(
     slots: usize,
     from: usize,
     lacks: &[usize; 24],
-    tables: &[u16; 52516],
-    settled: &[u32; 24],
-) -> [u32; 24]
+    tables: &[u16; 69416],
+    settled: &[usize; 24],
+) -> [usize; 24]
     requires { ⌜ (slots ≤ 24) × ((slot : ℕ) → slot < slots → getD (now settled) slot 0 ≤ 64) ⌝ }
     ensures { λ r. ⌜ r ≡ written slots 0 (fewestIn (entryAt (now (tables .entry))) from (now (lacks .entry)) (now (settled .entry))) (replicate 24 0) ⌝ }
 {
@@ -70,7 +62,7 @@ pub(crate) fn least_counts(
     let mut slot = 0;
     while slot < slots {
         let more = least_at(tables, 0, from, lacks[slot]);
-        least[slot] = settled[slot] + word_of(more);
+        least[slot] = settled[slot] + more;
         slot += 1;
     }
     least

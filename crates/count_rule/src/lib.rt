@@ -1,5 +1,8 @@
-// What the least counts of the slots leave of the domains.
+// How many choices the slots have at least and fewer than how many, and what that leaves of the domains.
 
+pub mod bounds;
 mod counts;
-mod raises;
+mod limits;
+mod rooms;
 pub mod rule;
+mod wants;

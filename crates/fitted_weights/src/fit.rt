@@ -21,7 +21,7 @@ ghost use lib.ListN.{length};
 const ENOUGH: u16 = 2518;
 
 // In table 1 a choice weighs its heads.
-fn weigh_heads(choosers: usize, maxs: &[u16], tables: &mut [u16; 52516])
+fn weigh_heads(choosers: usize, maxs: &[u16], tables: &mut [u16; 69416])
     requires { ⌜ length (now maxs) ≤ 64 ⌝ }
 {
     let mut choice = 0;
@@ -39,7 +39,7 @@ fn bring_in(
     known: usize,
     maxs: &[u16],
     kinds: &[usize; 64],
-    tables: &mut [u16; 52516],
+    tables: &mut [u16; 69416],
     program: &mut [f64; 4416],
 ) -> bool
     requires { ⌜ ((table < 4) × (choosers ≤ 200)) × ((first ≤ length (now maxs)) × (length (now maxs) ≤ 64)) ⌝ }
@@ -63,7 +63,7 @@ fn bring_all(
     known: usize,
     maxs: &[u16],
     kinds: &[usize; 64],
-    tables: &mut [u16; 52516],
+    tables: &mut [u16; 69416],
     program: &mut [f64; 4416],
 )
     requires { ⌜ ((table < 4) × (choosers ≤ 200)) × ((first ≤ length (now maxs)) × (length (now maxs) ≤ 64)) ⌝ }
@@ -86,7 +86,7 @@ fn fit_table(
     maxs: &[u16],
     sizes: &[usize; 64],
     kinds: &[usize; 64],
-    tables: &mut [u16; 52516],
+    tables: &mut [u16; 69416],
 )
     requires { ⌜ ((table < 4) × (slots ≤ 24)) × ((choosers ≤ 200) × (length (now maxs) ≤ 64)) ⌝ }
 {
@@ -111,7 +111,7 @@ fn fit_table(
 }
 
 // Heads, then the weights by which the choices for all slots but one, and but two, are worth least.
-fn fit_day(slots: usize, choosers: usize, maxs: &[u16], tables: &mut [u16; 52516])
+fn fit_day(slots: usize, choosers: usize, maxs: &[u16], tables: &mut [u16; 69416])
     requires { ⌜ (slots ≤ 24) × ((choosers ≤ 200) × (length (now maxs) ≤ 64)) ⌝ }
 {
     weigh_heads(choosers, maxs, tables);
@@ -132,8 +132,8 @@ fn fit_day(slots: usize, choosers: usize, maxs: &[u16], tables: &mut [u16; 52516
 fn told(tables: &[u16]) {}
 
 // Chooses each choice's weight in tables 1 to 3: heads in table 1, in 2 and 3 weights by which the choices at the day's end are worth least.
-pub fn fit_weights(counts: Counts, maxs: &[u16], tables: &mut [u16; 52516])
-    ensures { λ r. ⌜ length (now (tables .exit)) ≡ 52516 ⌝ }
+pub fn fit_weights(counts: Counts, maxs: &[u16], tables: &mut [u16; 69416])
+    ensures { λ r. ⌜ length (now (tables .exit)) ≡ 69416 ⌝ }
 {
     told(tables);
     if 64 < counts.choices {

@@ -34,7 +34,7 @@ pub(crate) fn weigh_choices(
     choices: usize,
     kinds: &[usize; 64],
     program: &[f64; 4416],
-    tables: &mut [u16; 52516],
+    tables: &mut [u16; 69416],
 )
     requires { ⌜ (table < 4) × (choices ≤ 64) ⌝ }
 {
@@ -47,7 +47,7 @@ pub(crate) fn weigh_choices(
 }
 
 // With no choice left a lack of 0 is filled, and no other.
-fn fill_last(at: usize, choosers: usize, tables: &mut [u16; 52516])
+fn fill_last(at: usize, choosers: usize, tables: &mut [u16; 69416])
     requires { ⌜ (at + 201 ≤ 52260) × (choosers ≤ 200) ⌝ }
 {
     let mut lack = 0;
@@ -67,7 +67,7 @@ fn smaller_entry(entry: u16, weight: usize) -> u16 {
 }
 
 // A choice's row from the row after it: each entry is the smaller of leaving the choice out and taking it.
-fn fill_row(at: usize, choosers: usize, weight: usize, most: usize, tables: &mut [u16; 52516])
+fn fill_row(at: usize, choosers: usize, weight: usize, most: usize, tables: &mut [u16; 69416])
     requires { ⌜ (at + 402 ≤ 52260) × ((choosers ≤ 200) × (weight ≤ 65535)) ⌝ }
 {
     let mut lack = 0;
@@ -85,7 +85,7 @@ pub(crate) fn fill_rows(
     first: usize,
     choosers: usize,
     maxs: &[u16],
-    tables: &mut [u16; 52516],
+    tables: &mut [u16; 69416],
 )
     requires { ⌜ ((table < 4) × (choosers ≤ 200)) × (length (now maxs) ≤ 64) ⌝ }
 {
@@ -110,7 +110,7 @@ fn lack_after(
     lack: usize,
     kind: usize,
     most: usize,
-    tables: &[u16; 52516],
+    tables: &[u16; 69416],
     program: &mut [f64; 4416],
 ) -> usize
     requires { ⌜ (at + 402 ≤ 52260) × (lack ≤ 200) ⌝ }
@@ -133,7 +133,7 @@ pub(crate) fn take_lightest(
     choosers: usize,
     maxs: &[u16],
     kinds: &[usize; 64],
-    tables: &[u16; 52516],
+    tables: &[u16; 69416],
     program: &mut [f64; 4416],
 )
     requires { ⌜ ((table < 4) × (choosers ≤ 200)) × ((first ≤ length (now maxs)) × (length (now maxs) ≤ 64)) ⌝ }

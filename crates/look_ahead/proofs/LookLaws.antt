@@ -5,9 +5,9 @@ use mathlib.Core.List.{List, [], _∷_}
 use mathlib.Core.Logic.{_⊎_, inl, inr}
 use Prim.Native.Nat.{ℕ, zero, suc, _+_, _-_, _≤_, _<_}
 use native.Mathlib.Omega.{arith}
-use borrow.Author.Tests.{lt-ltb, le-ltb, ltb-true, ltb-false, eq-eqb, ne-eqb}
+use borrow.Author.Tests.{lt-ltb, le-ltb, ltb-true, ltb-false, le-leb, eq-eqb, ne-eqb}
 use lib.Dec.{eqb, ltb, leb}
-use lib.ListN.{length, getD, set, take, replicate, length-set, length-replicate}
+use lib.ListN.{length, getD, set, take, replicate, length-set, length-replicate, getD-replicate}
 use lib.Seq.{getD-take, getD-set-same}
 use Rattle.lists.specs.Below.{allBelow}
 use Rattle.lists.proofs.Below.{each-all, and-both, and-left, and-right}
@@ -29,17 +29,19 @@ use Rattle.slot_rules.proofs.LimitLaws.{limit-length}
 use Rattle.row_rules.specs.RowRules.{rowRule}
 use Rattle.row_rules.specs.RowsRule.{anyRule, rowsRule}
 use Rattle.row_rules.proofs.RowsLaws.{row-length, rows-within}
-use Rattle.table_rule.specs.Figures.{freeOf, firstIn, lacksOf}
-use Rattle.table_rule.specs.Enough.{lacksAt, weightAfter, enoughWith, enoughAsked, enoughPlaces}
-use Rattle.table_rule.specs.Rule.{needOf, slotKept, tableRule, tablesBelow, fourTables, tablesRule}
+use Rattle.lightest_weights.specs.Lightest.{lightestAt, LightestFilled}
+use Rattle.table_rule.specs.Figures.{freeOf, firstIn, lacksOf, lacksIn, freeIn}
+use Rattle.table_rule.specs.Enough.{needOf, slotKept, lacksAt, weightAfter, enoughWith, enoughAsked, enoughPlaces}
+use Rattle.table_rule.specs.Rule.{tableRule, tablesBelow, tablesRule}
+use Rattle.table_rule.proofs.FigureLaws.{lacks-in}
 use Rattle.table_rule.proofs.WithinLaws.{tables-within}
 use Rattle.table_rule.proofs.EnoughPlaces.{enough-keeps}
-use Rattle.count_rule.specs.CountRule.{countsRule}
-use Rattle.count_rule.proofs.CountLaws.{counts-length, counts-within}
+use Rattle.count_rule.specs.CountRule.{hasLimit, wantsOf, roomsOf, broken, countsRule}
+use Rattle.count_rule.proofs.CountLaws.{counts-length, counts-within, wants-stand, rooms-stand, not-broken}
 use Rattle.open_places.specs.Open.{openAt, openPlaces}
 use Rattle.open_places.proofs.OpenLaws.{open-has, open-fits}
 use Rattle.decided_rows.specs.Leaves.{rowsLeave}
-use Rattle.look_ahead.specs.Look.{decided, alive, aliveOr, weighed, lookedAhead, nearEnd, openedAt, seenAt}
+use Rattle.look_ahead.specs.Look.{decided, alive, aliveOr, limitsLeave, weighed, keptIfAlive, lookedAhead, nearEnd, openedAt, seenAt}
 
 -- ---- the last choice stands where the plan has it
 
@@ -93,26 +95,21 @@ alive-length choices domains l = go (alive choices domains)
 
 -- ---- no rule changes how many domains there are
 
-tables-below : (entry : ℕ → ℕ → ℕ → ℕ) (weight : ℕ → ℕ → ℕ) (counts : Counts) (maxs : List ℕ) (free from : ℕ) (lacks : List ℕ) (n : ℕ) (domains : List ℕ)
-    → length (tablesBelow entry weight counts maxs free from lacks n domains) ≡ length domains
+tables-below : (entry light : ℕ → ℕ → ℕ → ℕ) (weight : ℕ → ℕ → ℕ) (counts : Counts) (maxs : List ℕ) (free from : ℕ) (lacks wants : List ℕ) (n : ℕ) (domains : List ℕ)
+    → length (tablesBelow entry light weight counts maxs free from lacks wants n domains) ≡ length domains
 unfolding tablesBelow
-tables-below entry weight counts maxs free from lacks zero domains = refl
-tables-below entry weight counts maxs free from lacks (suc n) domains =
-    each-length (counts .choices) (tableRule entry weight counts maxs n free from lacks) (tablesBelow entry weight counts maxs free from lacks n domains)
-    ∙ tables-below entry weight counts maxs free from lacks n domains
+tables-below entry light weight counts maxs free from lacks wants zero domains = refl
+tables-below entry light weight counts maxs free from lacks wants (suc n) domains =
+    each-length (counts .choices) (tableRule entry light weight counts maxs n free from lacks wants) (tablesBelow entry light weight counts maxs free from lacks wants n domains)
+    ∙ tables-below entry light weight counts maxs free from lacks wants n domains
 
-tables-length : (entry : ℕ → ℕ → ℕ → ℕ) (weight : ℕ → ℕ → ℕ) (counts : Counts) (maxs domains : List ℕ) → length (tablesRule entry weight counts maxs domains) ≡ length domains
-unfolding tablesRule fourTables
-tables-length entry weight counts maxs domains = go (tablesFit counts maxs && leb (counts .slots) 24)
+tables-length : (entry light : ℕ → ℕ → ℕ → ℕ) (weight : ℕ → ℕ → ℕ) (counts : Counts) (maxs : List ℕ) (free : ℕ) (lacks wants domains : List ℕ)
+    → length (tablesRule entry light weight counts maxs free lacks wants domains) ≡ length domains
+unfolding tablesRule
+tables-length entry light weight counts maxs free lacks wants domains = go (tablesFit counts maxs && leb (counts .slots) 24)
   where
-    free : ℕ
-    free = freeOf (counts .choices) domains
-
-    lacks : List ℕ
-    lacks = lacksOf (counts .slots) (counts .choices) (counts .choosers) maxs free domains
-
-    go : (b : Bool) → length (cond b (tablesBelow entry weight counts maxs free (firstIn (counts .choices) free) lacks 4 domains) domains) ≡ length domains
-    go true = tables-below entry weight counts maxs free (firstIn (counts .choices) free) lacks 4 domains
+    go : (b : Bool) → length (cond b (tablesBelow entry light weight counts maxs free (firstIn (counts .choices) free) lacks wants 4 domains) domains) ≡ length domains
+    go true = tables-below entry light weight counts maxs free (firstIn (counts .choices) free) lacks wants 4 domains
     go false = refl
 
 any-length : (counts : Counts) (row : Row) (domains : List ℕ) → length (anyRule counts row domains) ≡ length domains
@@ -131,18 +128,36 @@ rows-length counts (number ∷ rows) domains =
 
 -- ---- tables and counts
 
-module _ (counts : Counts) (maxs rows tables plan : List ℕ) (choice : ℕ) (domains : List ℕ) where
-  weighed-by : weighed counts maxs rows tables (take choice plan) choice domains ≡ weighed counts maxs rows tables plan choice domains
-  unfolding weighed
-  weighed-by =
-      ap (λ (l : List ℕ). countsRule (entryAt tables) counts maxs rows (tablesRule (entryAt tables) (weightAt tables) counts maxs l)) (sym (decided-start (counts .slots) plan choice domains))
+module _ (counts : Counts) (maxs rows tables domains : List ℕ) (l : length domains ≡ 64) where
+  limits-length : (free : ℕ) (lacks : List ℕ) → length (limitsLeave counts maxs rows tables free lacks domains) ≡ 64
+  unfolding limitsLeave
+  limits-length free lacks = go (broken (entryAt tables) counts rows (firstIn (counts .choices) free) lacks domains)
+    where
+      wants : List ℕ
+      wants = wantsOf (entryAt tables) counts rows (firstIn (counts .choices) free) lacks domains
 
-  weighed-length : length (weighed counts maxs rows tables plan choice domains) ≡ length domains
+      by-tables : List ℕ
+      by-tables = tablesRule (entryAt tables) (lightestAt tables) (weightAt tables) counts maxs free lacks wants domains
+
+      go : (b : Bool) → length (cond b (replicate 64 0) (countsRule (entryAt tables) counts maxs free lacks wants (roomsOf counts rows domains) by-tables)) ≡ 64
+      go true = length-replicate {A = ℕ} 64 0
+      go false =
+          counts-length (entryAt tables) counts maxs free lacks wants (roomsOf counts rows domains) by-tables
+          ∙ tables-length (entryAt tables) (lightestAt tables) (weightAt tables) counts maxs free lacks wants domains
+          ∙ l
+
+  weighed-length : length (weighed counts maxs rows tables domains) ≡ 64
   unfolding weighed
-  weighed-length =
-      counts-length (entryAt tables) counts maxs rows (tablesRule (entryAt tables) (weightAt tables) counts maxs (decided (counts .slots) plan choice domains))
-      ∙ tables-length (entryAt tables) (weightAt tables) counts maxs (decided (counts .slots) plan choice domains)
-      ∙ decided-length (counts .slots) plan choice domains
+  weighed-length = go (hasLimit rows)
+    where
+      free : ℕ
+      free = cond (leb (counts .choices) 64) (freeOf (counts .choices) domains) 0
+
+      go : (b : Bool)
+          → length (cond b (limitsLeave counts maxs rows tables free (lacksIn counts maxs domains) domains)
+          (tablesRule (entryAt tables) (lightestAt tables) (weightAt tables) counts maxs free (lacksIn counts maxs domains) (replicate 24 0) domains)) ≡ 64
+      go true = limits-length free (lacksIn counts maxs domains)
+      go false = tables-length (entryAt tables) (lightestAt tables) (weightAt tables) counts maxs free (lacksIn counts maxs domains) (replicate 24 0) domains ∙ l
 
 -- ---- the look ahead
 
@@ -150,26 +165,24 @@ module _ (counts : Counts) (mins maxs rows tables plan : List ℕ) (choice : ℕ
   -- of a plan the places before the choice matter alone
   pub looked-start : choice ≤ length plan → lookedAhead counts mins maxs rows tables (take choice plan) choice domains ≡ lookedAhead counts mins maxs rows tables plan choice domains
   unfolding lookedAhead
-  looked-start h =
-      ap
-      (λ (w : List ℕ). cond (alive (counts .choices) w) (aliveOr (counts .choices) (rowsRule counts rows (slotsRule counts mins maxs w))) (replicate 64 0))
-      weighed-start
-    where
-      weighed-start : weighed counts maxs rows tables (take choice plan) choice domains ≡ weighed counts maxs rows tables plan choice domains
-      weighed-start = weighed-by counts maxs rows tables plan choice domains
+  looked-start h = ap (λ (d : List ℕ). keptIfAlive counts mins maxs rows (weighed counts maxs rows tables d)) (sym (decided-start (counts .slots) plan choice domains))
 
   pub looked-length : length domains ≡ 64 → length (lookedAhead counts mins maxs rows tables plan choice domains) ≡ 64
-  unfolding lookedAhead
-  looked-length l = go (alive (counts .choices) (weighed counts maxs rows tables plan choice domains))
+  unfolding lookedAhead keptIfAlive
+  looked-length l = go (alive (counts .choices) by-counts)
     where
-      go : (b : Bool)
-          → length (cond b (aliveOr (counts .choices) (rowsRule counts rows (slotsRule counts mins maxs (weighed counts maxs rows tables plan choice domains)))) (replicate 64 0)) ≡ 64
+      last : List ℕ
+      last = decided (counts .slots) plan choice domains
+
+      by-counts : List ℕ
+      by-counts = weighed counts maxs rows tables last
+
+      go : (b : Bool) → length (cond b (aliveOr (counts .choices) (rowsRule counts rows (slotsRule counts mins maxs by-counts))) (replicate 64 0)) ≡ 64
       go true =
-          alive-length (counts .choices) (rowsRule counts rows (slotsRule counts mins maxs (weighed counts maxs rows tables plan choice domains)))
-          (rows-length counts rows (slotsRule counts mins maxs (weighed counts maxs rows tables plan choice domains))
-          ∙ slots-length counts mins maxs (weighed counts maxs rows tables plan choice domains)
-          ∙ weighed-length counts maxs rows tables plan choice domains
-          ∙ l)
+          alive-length (counts .choices) (rowsRule counts rows (slotsRule counts mins maxs by-counts))
+          (rows-length counts rows (slotsRule counts mins maxs by-counts)
+          ∙ slots-length counts mins maxs by-counts
+          ∙ weighed-length counts maxs rows tables last (decided-length (counts .slots) plan choice domains ∙ l))
       go false = length-replicate {A = ℕ} 64 0
 
 -- ---- as the walk sees it
@@ -251,31 +264,63 @@ pub record Looks (day : Day) (tables : List ℕ) : Type 0 where
   pub mins-fit : length (day .mins) ≡ day .counts .choices
   pub maxs-fit : length (day .maxs) ≡ day .counts .choices
   pub filled : Filled (day .counts) (day .maxs) tables
+  pub lightest : LightestFilled (day .counts .choices) tables
 
 module _ (day : Day) (tables : List ℕ) (looks : Looks day tables) (plan : List ℕ) (f : feasible day plan ≡ true) (size : length plan ≡ day .counts .choices) where
   -- a feasible plan stays within what is left: each rule keeps it
-  weighed-within : (choice : ℕ) (domains : List ℕ) → choice ≤ day .counts .choices → length domains ≡ 64 → Within (day .counts .slots) plan domains
-      → Within (day .counts .slots) plan (weighed (day .counts) (day .maxs) (day .rows) tables plan choice domains)
-  unfolding weighed
-  weighed-within choice domains h l w =
-      let last = decided (day .counts .slots) plan choice domains in
-      let by-tables = tablesRule (entryAt tables) (weightAt tables) (day .counts) (day .maxs) last in
-      let wl : Within (day .counts .slots) plan last =
-      decided-within (day .counts .slots) plan choice domains (looks .few-slots) (omega (arith, h, l, looks .few-choices)) w in
-      let ll : length last ≡ 64 = decided-length (day .counts .slots) plan choice domains ∙ l in
-      let lt : length by-tables ≡ 64 = tables-length (entryAt tables) (weightAt tables) (day .counts) (day .maxs) last ∙ ll in
-      let wt : Within (day .counts .slots) plan by-tables = tables-within day plan tables last f size (looks .filled) ll wl in
-      counts-within day plan tables by-tables f size (looks .filled) lt wt
+  module _ (domains : List ℕ) (l : length domains ≡ 64) (w : Within (day .counts .slots) plan domains) where
+    abbrev free : ℕ
+    free = freeOf (day .counts .choices) domains
+
+    abbrev lacks : List ℕ
+    lacks = lacksOf (day .counts .slots) (day .counts .choices) (day .counts .choosers) (day .maxs) free domains
+
+    -- the tables, by whatever the slots want that the plan has
+    by-tables : (wants : List ℕ) → ((slot : ℕ) → slot < day .counts .slots → getD wants slot 0 ≤ freeIn (day .counts .choices) free plan slot)
+        → Within (day .counts .slots) plan (tablesRule (entryAt tables) (lightestAt tables) (weightAt tables) (day .counts) (day .maxs) free lacks wants domains)
+    by-tables wants h = tables-within day plan tables domains domains wants f size (looks .filled) (looks .lightest) l w w h
+
+    -- where there are limits: no slot's least count is one that it can't have, and the plan keeps what the slots want and have room for
+    limits-within : Within (day .counts .slots) plan (limitsLeave (day .counts) (day .maxs) (day .rows) tables free lacks domains)
+    unfolding limitsLeave
+    limits-within =
+        let wants = wantsOf (entryAt tables) (day .counts) (day .rows) (firstIn (day .counts .choices) free) lacks domains in
+        let rooms = roomsOf (day .counts) (day .rows) domains in
+        let left = tablesRule (entryAt tables) (lightestAt tables) (weightAt tables) (day .counts) (day .maxs) free lacks wants domains in
+        let wanted = wants-stand day plan tables domains f size (looks .filled) w in
+        let ll : length left ≡ 64 = tables-length (entryAt tables) (lightestAt tables) (weightAt tables) (day .counts) (day .maxs) free lacks wants domains ∙ l in
+        rw (not-broken day plan tables domains f size (looks .filled) w)
+        (counts-within day plan tables domains left wants rooms f size (looks .filled) ll w (by-tables wants wanted) wanted
+        (rooms-stand day plan tables domains f size (looks .filled) w))
+
+    weighed-within : Within (day .counts .slots) plan (weighed (day .counts) (day .maxs) (day .rows) tables domains)
+    unfolding weighed
+    weighed-within =
+        rw (le-leb (day .counts .choices) 64 (looks .few-choices), lacks-in (day .counts) (day .maxs) domains (looks .few-choices) (looks .maxs-fit) (looks .few-slots))
+        (go (hasLimit (day .rows)))
+      where
+        none-wanted : (slot : ℕ) → slot < day .counts .slots → getD {A = ℕ} (replicate 24 0) slot 0 ≤ freeIn (day .counts .choices) free plan slot
+        none-wanted slot h = rw (getD-replicate {A = ℕ} 24 slot 0 0 (omega (arith, h, looks .few-slots))) (omega arith)
+
+        go : (b : Bool)
+            → Within (day .counts .slots) plan (cond b (limitsLeave (day .counts) (day .maxs) (day .rows) tables free lacks domains)
+            (tablesRule (entryAt tables) (lightestAt tables) (weightAt tables) (day .counts) (day .maxs) free lacks (replicate 24 0) domains))
+        go true = limits-within
+        go false = by-tables (replicate 24 0) none-wanted
 
   pub looked-within : (choice : ℕ) (domains : List ℕ) → choice ≤ day .counts .choices → length domains ≡ 64 → Within (day .counts .slots) plan domains
       → Within (day .counts .slots) plan (lookedAhead (day .counts) (day .mins) (day .maxs) (day .rows) tables (take choice plan) choice domains)
-  unfolding lookedAhead
+  unfolding lookedAhead keptIfAlive
   looked-within choice domains h l w =
-      let by-counts = weighed (day .counts) (day .maxs) (day .rows) tables plan choice domains in
+      let last = decided (day .counts .slots) plan choice domains in
+      let by-counts = weighed (day .counts) (day .maxs) (day .rows) tables last in
       let summed = slotsRule (day .counts) (day .mins) (day .maxs) by-counts in
-      let lc : length by-counts ≡ 64 = weighed-length (day .counts) (day .maxs) (day .rows) tables plan choice domains ∙ l in
+      let ll : length last ≡ 64 = decided-length (day .counts .slots) plan choice domains ∙ l in
+      let wl : Within (day .counts .slots) plan last =
+      decided-within (day .counts .slots) plan choice domains (looks .few-slots) (omega (arith, h, l, looks .few-choices)) w in
+      let lc : length by-counts ≡ 64 = weighed-length (day .counts) (day .maxs) (day .rows) tables last ll in
       let ls : length summed ≡ 64 = slots-length (day .counts) (day .mins) (day .maxs) by-counts ∙ lc in
-      let wc : Within (day .counts .slots) plan by-counts = weighed-within choice domains h l w in
+      let wc : Within (day .counts .slots) plan by-counts = weighed-within last ll wl in
       let ws : Within (day .counts .slots) plan summed = slots-within day plan by-counts f size lc wc in
       rw (looked-start (day .counts) (day .mins) (day .maxs) (day .rows) tables plan choice domains (omega (arith, h, size)))
       (rw (within-alive (day .counts .slots) plan (day .counts .choices) by-counts size wc)

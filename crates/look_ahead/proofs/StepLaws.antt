@@ -1,5 +1,5 @@
 -- A law for each way through the functions of the look ahead.
-use mathlib.Core.Path.{_≡_, refl, sym, ap, _∙_}
+use mathlib.Core.Path.{_≡_, refl, sym, ap, ap₂, _∙_}
 use mathlib.Core.Bool.{Bool, true, false, not, cond}
 use mathlib.Core.List.{List}
 use Prim.Native.Nat.{ℕ, zero, suc, _+_, _-_, _≤_, _<_}
@@ -17,11 +17,13 @@ use Rattle.place_sets.specs.Domains.{placeNumber, onlyPlace}
 use Rattle.weight_tables.specs.Tables.{entryAt, weightAt}
 use Rattle.slot_rules.specs.SlotRules.{slotsRule}
 use Rattle.row_rules.specs.RowsRule.{rowsRule}
+use Rattle.lightest_weights.specs.Lightest.{lightestAt}
+use Rattle.table_rule.specs.Figures.{freeOf, firstIn, lacksIn}
 use Rattle.table_rule.specs.Rule.{tablesRule}
-use Rattle.count_rule.specs.CountRule.{countsRule}
+use Rattle.count_rule.specs.CountRule.{hasLimit, wantsOf, roomsOf, broken, countsRule}
 use Rattle.open_places.specs.Open.{openPlaces}
 use Rattle.decided_rows.specs.Leaves.{rowsLeave}
-use Rattle.look_ahead.specs.Look.{decided, alive, aliveOr, weighed, lookedAhead, nearEnd, openedAt}
+use Rattle.look_ahead.specs.Look.{decided, alive, aliveOr, limitsLeave, weighed, keptIfAlive, lookedAhead, nearEnd, openedAt}
 
 -- ---- the last choice is decided
 
@@ -77,25 +79,62 @@ pub more-alive : (domains : List ℕ) (choice : ℕ) → alive choice domains �
 unfolding alive
 more-alive domains choice h n = all-more (λ choice. not (eqb (getD domains choice 0) 0)) choice h (rw (ne-eqb (getD domains choice 0) 0 n))
 
+-- ---- tables and counts
+
+module _ (counts : Counts) (maxs rows tables : List ℕ) (free : ℕ) (lacks domains : List ℕ) where
+  -- a slot's least count is one that it can't have
+  pub limits-broken : {dead : Bool} {after : List ℕ} → dead ≡ broken (entryAt tables) counts rows (firstIn (counts .choices) free) lacks domains → dead ≡ true
+      → after ≡ replicate 64 0 → after ≡ limitsLeave counts maxs rows tables free lacks domains
+  unfolding limitsLeave
+  limits-broken d t z = z ∙ sym (rw (sym d ∙ t))
+
+  -- or tables, and then counts
+  pub limits-by : {dead : Bool} {wants rooms by-tables after : List ℕ} → dead ≡ broken (entryAt tables) counts rows (firstIn (counts .choices) free) lacks domains → dead ≡ false
+      → wants ≡ wantsOf (entryAt tables) counts rows (firstIn (counts .choices) free) lacks domains
+      → rooms ≡ roomsOf counts rows domains
+      → by-tables ≡ tablesRule (entryAt tables) (lightestAt tables) (weightAt tables) counts maxs free lacks wants domains
+      → after ≡ countsRule (entryAt tables) counts maxs free lacks wants rooms by-tables
+      → after ≡ limitsLeave counts maxs rows tables free lacks domains
+  unfolding limitsLeave
+  limits-by {wants = wants} {rooms = rooms} d f w r t c =
+      c
+      ∙ ap₂ (λ (x y : List ℕ). countsRule (entryAt tables) counts maxs free lacks wants x y) r t
+      ∙ ap (λ (x : List ℕ). countsRule (entryAt tables) counts maxs free lacks x (roomsOf counts rows domains)
+      (tablesRule (entryAt tables) (lightestAt tables) (weightAt tables) counts maxs free lacks x domains)) w
+      ∙ sym (rw (sym d ∙ f))
+
+module _ (counts : Counts) (maxs rows tables domains : List ℕ) {free : ℕ} {lacks : List ℕ} {limited : Bool}
+    (f : free ≡ cond (leb (counts .choices) 64) (freeOf (counts .choices) domains) 0) (l : lacks ≡ lacksIn counts maxs domains) (h : limited ≡ hasLimit rows) where
+  pub weigh-limited : {after : List ℕ} → limited ≡ true → after ≡ limitsLeave counts maxs rows tables free lacks domains → after ≡ weighed counts maxs rows tables domains
+  unfolding weighed
+  weigh-limited t a = a ∙ ap₂ (λ (x : ℕ) (y : List ℕ). limitsLeave counts maxs rows tables x y domains) f l ∙ sym (rw (sym h ∙ t))
+
+  pub weigh-unlimited : {none after : List ℕ} → limited ≡ false → none ≡ replicate 24 0
+      → after ≡ tablesRule (entryAt tables) (lightestAt tables) (weightAt tables) counts maxs free lacks none domains → after ≡ weighed counts maxs rows tables domains
+  unfolding weighed
+  weigh-unlimited t n a =
+      a
+      ∙ ap (λ (x : List ℕ). tablesRule (entryAt tables) (lightestAt tables) (weightAt tables) counts maxs free lacks x domains) n
+      ∙ ap₂ (λ (x : ℕ) (y : List ℕ). tablesRule (entryAt tables) (lightestAt tables) (weightAt tables) counts maxs x y (replicate 24 0) domains) f l
+      ∙ sym (rw (sym h ∙ t))
+
 -- ---- the look ahead, by counts that are known by now
 
 module _ (counts : Counts) (mins maxs rows tables plan : List ℕ) (choice : ℕ) (domains : List ℕ) where
-  module _ {counts' : Counts} {last by-tables by-counts : List ℕ} (e : counts' ≡ counts) (d : last ≡ decided (counts' .slots) plan choice domains)
-      (t : by-tables ≡ tablesRule (entryAt tables) (weightAt tables) counts' maxs last) (n : by-counts ≡ countsRule (entryAt tables) counts' maxs rows by-tables)
-      {living : Bool} (l : living ≡ alive (counts' .choices) by-counts) where
-    weighed-is : by-counts ≡ weighed counts maxs rows tables plan choice domains
-    unfolding weighed
+  module _ {counts' : Counts} {last by-counts : List ℕ} (e : counts' ≡ counts) (d : last ≡ decided (counts' .slots) plan choice domains)
+      (n : by-counts ≡ weighed counts' maxs rows tables last) {living : Bool} (l : living ≡ alive (counts' .choices) by-counts) where
+    weighed-is : by-counts ≡ weighed counts maxs rows tables (decided (counts .slots) plan choice domains)
     weighed-is =
         n
-        ∙ ap (countsRule (entryAt tables) counts' maxs rows) (t ∙ ap (tablesRule (entryAt tables) (weightAt tables) counts' maxs) d)
-        ∙ ap (λ (k : Counts). countsRule (entryAt tables) k maxs rows (tablesRule (entryAt tables) (weightAt tables) k maxs (decided (k .slots) plan choice domains))) e
+        ∙ ap (weighed counts' maxs rows tables) d
+        ∙ ap (λ (k : Counts). weighed k maxs rows tables (decided (k .slots) plan choice domains)) e
 
-    living-is : living ≡ alive (counts .choices) (weighed counts maxs rows tables plan choice domains)
+    living-is : living ≡ alive (counts .choices) (weighed counts maxs rows tables (decided (counts .slots) plan choice domains))
     living-is = l ∙ ap (λ (k : Counts). alive (k .choices) by-counts) e ∙ ap (alive (counts .choices)) weighed-is
 
     -- dead by tables and counts
     pub looked-dead : {seen : List ℕ} → living ≡ false → seen ≡ replicate 64 0 → seen ≡ lookedAhead counts mins maxs rows tables plan choice domains
-    unfolding lookedAhead
+    unfolding lookedAhead keptIfAlive
     looked-dead f z = z ∙ sym (rw (sym living-is ∙ f))
 
     -- rule after rule
@@ -104,7 +143,7 @@ module _ (counts : Counts) (mins maxs rows tables plan : List ℕ) (choice : ℕ
         → kept ≡ rowsRule counts' rows summed
         → seen ≡ aliveOr (counts' .choices) kept
         → seen ≡ lookedAhead counts mins maxs rows tables plan choice domains
-    unfolding lookedAhead
+    unfolding lookedAhead keptIfAlive
     looked-by y s r a =
         a
         ∙ ap (aliveOr (counts' .choices)) (r ∙ ap (rowsRule counts' rows) s)

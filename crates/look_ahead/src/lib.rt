@@ -4,3 +4,4 @@ mod alive;
 mod decided;
 pub mod look;
 pub mod see;
+mod weigh;

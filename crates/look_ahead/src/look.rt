@@ -3,11 +3,10 @@ use super::alive::alive_or;
 use super::alive::all_alive;
 use super::alive::no_places;
 use super::decided::with_decided;
-use count_rule::rule::narrow_by_counts;
+use super::weigh::weigh;
 use listing_starts::full::counts_of;
 use row_rules::rows::narrow_by_rows;
 use slot_rules::sums::narrow_by_slots;
-use table_rule::rule::narrow_by_tables;
 ghost use mathlib.Core.Path.{_≡_};
 ghost use Rattle.listing_nodes.specs.steps.Walk.{countsOf};
 ghost use Rattle.look_ahead.specs.Look.{lookedAhead};
@@ -18,7 +17,7 @@ pub fn look_ahead(
     mins: &[u16],
     maxs: &[u16],
     rows: &[u64],
-    tables: &[u16; 52_516],
+    tables: &[u16; 69_416],
     choice: usize,
     plan: &mut [u8],
     domains: &[u64; 64],
@@ -27,8 +26,7 @@ pub fn look_ahead(
 {
     let counts = counts_of(asked);
     let mut seen = with_decided(counts.slots, choice, plan, *domains);
-    narrow_by_tables(counts, maxs, tables, &mut seen);
-    narrow_by_counts(counts, maxs, rows, tables, &mut seen);
+    weigh(counts, maxs, rows, tables, &mut seen);
     if !all_alive(counts.choices, &seen) {
         return no_places();
     }

@@ -34,7 +34,7 @@ pub fn open_to(
     maxs: &[u16],
     optional: &[u8],
     rows: &[u64],
-    tables: &[u16; 52_516],
+    tables: &[u16; 69_416],
     choice: usize,
     front: usize,
     plan: &mut [u8],

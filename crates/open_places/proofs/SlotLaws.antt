@@ -18,11 +18,9 @@ use Rattle.listing_nodes.proofs.PlaceLaws.{may-stand, may-omit}
 use Rattle.weight_tables.specs.Weights.{sumFrom}
 use Rattle.weight_tables.specs.Tables.{entryAt}
 use Rattle.weight_tables.proofs.TableLaws.{entry-in}
-use Rattle.table_rule.specs.Rule.{needOf, slotKept}
-use Rattle.table_rule.specs.Enough.{lacksAt, weightAfter, enoughWith, enoughAsked, enoughPlaces}
+use Rattle.table_rule.specs.Enough.{lacksAt, needOf, weightAfter, slotKept, enoughWith, enoughAsked, enoughPlaces}
 use Rattle.table_rule.proofs.FigureLaws.{set-step}
-use Rattle.table_rule.proofs.RuleLaws.{need-step}
-use Rattle.table_rule.proofs.EnoughPlaces.{lack-at}
+use Rattle.table_rule.proofs.EnoughPlaces.{lack-at, need-step}
 use Rattle.open_places.specs.steps.Slots.{slotFits, fitsAt, fitting, leavesEnough, slotOpen}
 use Rattle.open_places.specs.Open.{openAt, openPlaces}
 

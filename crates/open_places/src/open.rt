@@ -8,8 +8,7 @@ ghost use Prim.Native.Nat.{_≤_, _<_};
 ghost use lib.ListN.{getD};
 ghost use Rattle.choice_sets.specs.Sets.{has, setOf, withChoice};
 ghost use Rattle.weight_tables.specs.Tables.{entryAt, weightAt};
-ghost use Rattle.table_rule.specs.Rule.{needOf};
-ghost use Rattle.table_rule.specs.Enough.{lacksAt, weightAfter, enoughWith, enoughAsked};
+ghost use Rattle.table_rule.specs.Enough.{lacksAt, needOf, weightAfter, enoughWith, enoughAsked};
 ghost use Rattle.open_places.specs.steps.Slots.{slotFits, slotOpen, leavesEnough, fitting};
 ghost use Rattle.open_places.specs.Open.{openPlaces};
 
@@ -48,7 +47,7 @@ fn is_asked(counts: Counts, choice: usize) -> bool
 }
 
 // What those of the choices from one on weigh that fill a lack, at the least, by table 1.
-fn lightest(tables: &[u16; 52516], from: usize, lack: usize) -> usize
+fn lightest(tables: &[u16; 69416], from: usize, lack: usize) -> usize
     requires { ⌜ (from ≤ 64) × (lack ≤ 200) ⌝ }
     ensures { λ r. ⌜ (r ≡ entryAt (now (tables .entry)) 1 from lack) × (r ≤ 65535) ⌝ }
 {
@@ -56,7 +55,7 @@ fn lightest(tables: &[u16; 52516], from: usize, lack: usize) -> usize
 }
 
 // A choice's weight in table 1.
-fn weight_of(tables: &[u16; 52516], choice: usize) -> usize
+fn weight_of(tables: &[u16; 69416], choice: usize) -> usize
     requires { ⌜ choice < 64 ⌝ }
     ensures { λ r. ⌜ (r ≡ weightAt (now (tables .entry)) 1 choice) × (r ≤ 65535) ⌝ }
 {
@@ -64,7 +63,7 @@ fn weight_of(tables: &[u16; 52516], choice: usize) -> usize
 }
 
 // What the choices from one on weigh together in table 1.
-fn weight_after(tables: &[u16; 52516], choices: usize, from: usize) -> usize
+fn weight_after(tables: &[u16; 69416], choices: usize, from: usize) -> usize
     requires { ⌜ (choices ≤ 64) × (from ≤ choices) ⌝ }
     ensures { λ r. ⌜ (r ≡ weightAfter (weightAt (now (tables .entry))) choices from) × (r ≤ 4194240) ⌝ }
 {
@@ -83,7 +82,7 @@ fn need_by_fills(
     choosers: usize,
     from: usize,
     fills: &[usize; 24],
-    tables: &[u16; 52516],
+    tables: &[u16; 69416],
 ) -> usize
     requires { ⌜ (slots ≤ 24) × ((choosers ≤ 200) × (from ≤ 64)) ⌝ }
     ensures { λ r. ⌜ (r ≡ needOf (entryAt (now (tables .entry))) slots 1 from (lacksAt choosers slots (now (fills .entry)))) × (r ≤ 1572840) ⌝ }
@@ -175,7 +174,7 @@ fn leaves_enough(
     choosers: usize,
     from: usize,
     fills: &[usize; 24],
-    tables: &[u16; 52516],
+    tables: &[u16; 69416],
     most: usize,
     need: usize,
     spare: usize,
@@ -195,7 +194,7 @@ fn slot_open(
     choosers: usize,
     from: usize,
     fills: &[usize; 24],
-    tables: &[u16; 52516],
+    tables: &[u16; 69416],
     least: usize,
     sums: &[usize; 24],
     most: usize,
@@ -222,7 +221,7 @@ fn open_slots(
     choosers: usize,
     from: usize,
     fills: &[usize; 24],
-    tables: &[u16; 52516],
+    tables: &[u16; 69416],
     least: usize,
     sums: &[usize; 24],
     most: usize,
@@ -265,7 +264,7 @@ fn places_left(
     from: usize,
     spare: usize,
     fills: &[usize; 24],
-    tables: &[u16; 52516],
+    tables: &[u16; 69416],
     least: usize,
     most: usize,
     flag: u8,
@@ -300,7 +299,7 @@ pub fn open_places(
     mins: &[u16],
     maxs: &[u16],
     optional: &[u8],
-    tables: &[u16; 52516],
+    tables: &[u16; 69416],
     choice: usize,
     sums: &[usize; 24],
     fills: &[usize; 24],

@@ -25,6 +25,8 @@ use Rattle.alive_starts.specs.Run.{Standing, standing, run, goesOn}
 use Rattle.alive_starts.proofs.RunLaws.{goes-first}
 use Rattle.place_sets.specs.Domains.{firstDomain}
 use Rattle.weight_tables.specs.Tables.{tablesFit, Fills}
+use Rattle.lightest_weights.specs.Lightest.{FillsLightest}
+use Rattle.lightest_weights.proofs.LightestLaws.{lightest-filled, filled-kept}
 use Rattle.walk_steps.specs.Sight.{eventsFrom}
 use Rattle.walk_steps.proofs.SafeEyes.{walk-holds}
 use Rattle.page_answers.specs.Page.{toldOf}
@@ -99,8 +101,9 @@ module _ (counts : Counts) (mins maxs optional rows : List ℕ) (first room budg
   walk-requires list h = rw a (judged-with list, omega (arith, h), goes-first first room)
 
   -- and where it ends
-  pub page-answers : (domains : List ℕ) {blank tables ordered list : List ℕ} {going : Bool} {turns met : ℕ} {buffer' : List ℕ} {told : Told PageTold}
-      → Fills counts maxs blank tables
+  pub page-answers : (domains : List ℕ) {blank filled tables ordered list : List ℕ} {going : Bool} {turns met : ℕ} {buffer' : List ℕ} {told : Told PageTold}
+      → Fills counts maxs blank filled
+      → FillsLightest (counts .choices) filled tables
       → (length domains ≡ 64) × ((choice : ℕ) → choice < 64 → getD domains choice 0 ≡ firstDomain (counts .slots) (getD optional choice 0))
       → ordered ≡ padded (orderedOf (counts .slots) (take 1024 rows))
       → list ≡ take (length rows) ordered
@@ -109,11 +112,12 @@ module _ (counts : Counts) (mins maxs optional rows : List ℕ) (first room budg
       → judgeOf (dayOf counts mins maxs optional rows) room (length buffer) ≡ good
       → Fits (dayOf counts mins maxs optional rows) first room budget buffer told buffer'
   unfolding numbersAsked tablesFit
-  page-answers domains {tables = tables} {list = list} {going = going} {turns = turns} {met = met} {buffer' = buffer'} f d o l s t g =
+  page-answers domains {filled = filled} {tables = tables} {list = list} {going = going} {turns = turns} {met = met} {buffer' = buffer'} f k d o l s t g =
       let fits : tablesFit counts maxs ≡ true = rw (le-leb (counts .choices) 64 (j .few-choices), le-leb (counts .choosers) 200 (j .few-choosers), eq-eqb (length maxs) (counts .choices) (j .maxs-fit)) in
       page-given (dayOf counts mins maxs optional rows) first room budget buffer g t
       (gives-told (dayOf counts mins maxs optional rows) first room budget buffer (standing going turns met buffer')
-      (walk-holds (dayOf counts mins maxs optional rows) list first room budget buffer tables domains (standing going turns met buffer') j (f .filled fits) (d .0)
+      (walk-holds (dayOf counts mins maxs optional rows) list first room budget buffer tables domains (standing going turns met buffer') j
+      (filled-kept counts maxs filled tables (j .few-choices) (j .few-choosers) (f .filled fits) k) (lightest-filled (counts .choices) filled tables k (j .few-choices)) (d .0)
       (λ i h. d .1 i (omega (arith, h, j .few-choices)))
       (order-keeps (counts .slots) rows (few-rows (dayOf counts mins maxs optional rows) room (length buffer) g) o l)
       (rw a at s)))

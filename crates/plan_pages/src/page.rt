@@ -2,6 +2,7 @@
 use constraint::check::Checked;
 use constraint::check::Counts;
 use fitted_weights::fit::fit_weights;
+use lightest_weights::fill::fill_lightest;
 use listing_nodes::judge::judge;
 use listing_starts::full::numbers_asked;
 use page_answers::page::Paged;
@@ -48,6 +49,7 @@ fn page_of_day(
     let mut tables = no_tables();
     fit_weights(counts, maxs, &mut tables);
     fill_tables(counts, maxs, &mut tables);
+    fill_lightest(counts.choices, &mut tables);
     let domains = first_domains(counts.slots, optional);
     let ordered = rows_in_order(counts.slots, rows);
     let list = first_rows(&ordered, rows.len());

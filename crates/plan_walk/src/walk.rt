@@ -3,9 +3,12 @@ use listing_starts::full::list_full;
 use look_ahead::look::look_ahead;
 use look_ahead::see::near_end;
 use page_answers::ready::goes_on;
+use walk_steps::next::next_after;
 use walk_steps::next::open_next;
 use walk_steps::next::rows_after;
 use walk_steps::stand::leave_place;
+use walk_steps::stand::none_met;
+use walk_steps::stand::pass_over;
 use walk_steps::stand::take_place;
 ghost use mathlib.Core.Bool.{true};
 ghost use Prim.Native.Nat.{_+_, _-_};
@@ -23,7 +26,7 @@ pub(crate) fn walk_choice(
     maxs: &&[u16],
     optional: &&[u8],
     rows: &&[u64],
-    tables: &[u16; 52_516],
+    tables: &[u16; 69_416],
     domains: &[u64; 64],
     choice: usize,
     plan: &mut &mut [u8],
@@ -88,7 +91,7 @@ fn walk_open(
     maxs: &&[u16],
     optional: &&[u8],
     rows: &&[u64],
-    tables: &[u16; 52_516],
+    tables: &[u16; 69_416],
     domains: &[u64; 64],
     choice: usize,
     plan: &mut &mut [u8],
@@ -138,14 +141,14 @@ fn walk_open(
     )
 }
 
-// 'one per place': the choice stands there while the walk goes on to the next choice; then it takes the next place that is open.
+// 'one per place': the choice stands there while the walk goes on to the next choice; then it takes the next place that is still open.
 fn walk_place(
     asked: &[usize; 6],
     mins: &&[u16],
     maxs: &&[u16],
     optional: &&[u8],
     rows: &&[u64],
-    tables: &[u16; 52_516],
+    tables: &[u16; 69_416],
     domains: &[u64; 64],
     choice: usize,
     places: u64,
@@ -160,7 +163,9 @@ fn walk_place(
     requires { ⌜ Ready (dayOf (countsOf (now asked)) (now (now mins)) (now (now maxs)) (now (now optional)) (now (now rows))) (getD (now asked) 4 0) (getD (now asked) 5 0) (choice + 1) choice (now (now plan)) (now sums) (now fills) (now turns) (now met) (now buffer) × Takes (dayOf (countsOf (now asked)) (now (now mins)) (now (now maxs)) (now (now optional)) (now (now rows))) choice places left (now sums) ⌝ }
     ensures { λ r. ⌜ Walked (getD (now (asked .entry)) 4 0) (getD (now (asked .entry)) 5 0) choice (eventsLeft (dayOf (countsOf (now (asked .entry))) (now (now (mins .entry))) (now (now (maxs .entry))) (now (now (optional .entry))) (now (now (rows .entry)))) (now (tables .entry)) (length (now (now (plan .entry))) - (choice + 1)) (take choice (now (now (plan .entry)))) (now (sums .entry)) (now (fills .entry)) (now (domains .entry)) places left) (now (now (plan .entry))) (now (now (plan .exit))) (now (sums .entry)) (now (sums .exit)) (now (fills .entry)) (now (fills .exit)) (standing true (now (turns .entry)) (now (met .entry)) (now (buffer .entry))) (standing r (now (turns .exit)) (now (met .exit)) (now (buffer .exit))) ⌝ }
 {
+    let before = *met;
     let stood = take_place(asked, mins, maxs, choice, left, plan, sums, fills);
+    let place = stood.place;
     let going = walk_choice(
         asked,
         mins,
@@ -181,7 +186,32 @@ fn walk_place(
     if !going {
         return false;
     }
-    if next == 0 {
+    if !none_met(before, *met) {
+        if next == 0 {
+            return true;
+        }
+        return walk_place(
+            asked,
+            mins,
+            maxs,
+            optional,
+            rows,
+            tables,
+            domains,
+            choice,
+            places,
+            next,
+            plan,
+            sums,
+            fills,
+            turns,
+            met,
+            buffer,
+        );
+    }
+    let still = pass_over(asked, rows, choice, plan, place, places, sums, fills);
+    let after = next_after(asked, still, left);
+    if after == 0 {
         return true;
     }
     walk_place(
@@ -193,8 +223,8 @@ fn walk_place(
         tables,
         domains,
         choice,
-        places,
-        next,
+        still,
+        after,
         plan,
         sums,
         fills,

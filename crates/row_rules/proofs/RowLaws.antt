@@ -18,10 +18,10 @@ use Rattle.scheduling.specs.Plan.{slotOf}
 use Rattle.scheduling.specs.Rows.{offsetKept, keepsRow}
 use Rattle.plan_rows.proofs.RowLaws.{offset-left-out, offset-right-out, offset-both, keeps-offset-row}
 use Rattle.scheduling.proofs.Meaning.{kind-1, kind-2, kind-3, kind-4}
-use Rattle.place_sets.specs.Domains.{placeNumber, Within, keptPlaces, bothPlaces, inOneSlot}
-use Rattle.place_sets.proofs.DomainLaws.{number-in, number-out, number-le, number-slot, kept-stays, both-stays, slot-one, slot-not-omitted, within-at, set-within}
-use Rattle.row_rules.specs.RowRules.{hasDomain, slotLeaves, slotRule, apart, facing, facingPlaces, rightOf, leftOf, pairLeft, pairRight, pairRule, rowRule}
-use Rattle.row_rules.proofs.SideLaws.{domain-below, domain-choice, leaves-past, leaves-by, apart-not, left-faced, right-faced, left-same, right-same, left-apart, right-apart, left-offset, right-offset, slot-none, slot-by, pair-no-left, pair-no-right, pair-by, row-in-slot, row-not-in-slot, row-same-slot, row-not-same-slot, row-offset, row-other}
+use Rattle.place_sets.specs.Domains.{placeNumber, Within, onlyPlace, keptPlaces, bothPlaces, inOneSlot}
+use Rattle.place_sets.proofs.DomainLaws.{number-in, number-out, number-le, number-slot, kept-stays, both-stays, only-has, slot-one, slot-not-omitted, within-at, set-within}
+use Rattle.row_rules.specs.RowRules.{hasDomain, slotLeaves, slotRule, apart, facing, facingPlaces, rightOf, leftOf, pairLeft, pairRight, pairRule, selfLeaves, selfRule, betweenRule, rowRule}
+use Rattle.row_rules.proofs.SideLaws.{domain-below, domain-choice, leaves-past, leaves-by, apart-not, left-faced, right-faced, left-same, right-same, left-apart, right-apart, left-offset, right-offset, slot-none, slot-by, pair-no-left, pair-no-right, pair-by, self-apart, self-offset, self-other, self-none, self-by, between-one, between-two, row-in-slot, row-not-in-slot, row-same-slot, row-not-same-slot, row-offset, row-other}
 
 -- a place of the day's: one of its slots, or omission
 abbrev pub Allowed : ℕ → ℕ → Type 0
@@ -141,6 +141,56 @@ module _ (slots : ℕ) (few : slots ≤ 24) where
   faces-back up down a b (inl w) = inl (w .1, w .0)
   faces-back up down a b (inr w) = inr (w .1, w .0, sym (w .2))
 
+  -- omission stays where it alone is left
+  pub omission-stays : (domain place : ℕ) → place ≡ 255 → has domain (placeNumber slots place) ≡ true
+      → has (bothPlaces domain (onlyPlace slots)) (placeNumber slots place) ≡ true
+  omission-stays domain place e h =
+      let p = placeNumber slots place in
+      both-stays domain (onlyPlace slots) p (below-64 place) h
+      (only-has slots p (below-64 place) ∙ eq-eqb p slots (number-out slots place (omega (arith, e, few))))
+
+  -- kind 4 of a choice with itself: it is omitted
+  pub self-apart-stays : (plan : List ℕ) (row : Row) (domain : ℕ) → keepsRow plan row ≡ true → row .left ≡ row .right → row .kind ≡ 4
+      → has domain (placeNumber slots (slotOf plan (row .left))) ≡ true → has (selfLeaves slots row domain) (placeNumber slots (slotOf plan (row .left))) ≡ true
+  self-apart-stays plan row domain kept e k h =
+      ap (λ (x : ℕ). has x (placeNumber slots (slotOf plan (row .left)))) (sym (self-apart slots row domain k))
+      ∙ omission-stays domain (slotOf plan (row .left)) (kind-4 plan row k .0 kept (ap (slotOf plan) e)) h
+
+  -- a choice that is so much higher than itself is omitted
+  pub own-offset : (plan : List ℕ) (choice extra : ℕ) → offsetKept plan choice choice extra ≡ true → (extra ≡ 32768 → ⊥) → slotOf plan choice ≡ 255
+  own-offset plan choice extra kept n = go (ℕ-discrete (slotOf plan choice) 255)
+    where
+      go : Dec (slotOf plan choice ≡ 255) → slotOf plan choice ≡ 255
+      go (yes o) = o
+      go (no i) =
+          let s : slotOf plan choice + 32768 ≡ slotOf plan choice + extra = eqb-true _ _ (sym (offset-both plan choice choice extra i i) ∙ kept) in
+          absurd (n (omega (arith, s)))
+
+  -- kind 5 of a choice with itself: the offset is 0, or it is omitted
+  pub self-offset-stays : (plan : List ℕ) (row : Row) (domain : ℕ) → keepsRow plan row ≡ true → row .left ≡ row .right → row .kind ≡ 5
+      → has domain (placeNumber slots (slotOf plan (row .left))) ≡ true → has (selfLeaves slots row domain) (placeNumber slots (slotOf plan (row .left))) ≡ true
+  self-offset-stays plan row domain kept e k h =
+      ap (λ (x : ℕ). has x (placeNumber slots (slotOf plan (row .left)))) (sym (self-offset slots row domain (row .extra) refl k))
+      ∙ go (ℕ-discrete (row .extra) 32768)
+    where
+      own : offsetKept plan (row .left) (row .left) (row .extra) ≡ true
+      own = ap (λ (x : ℕ). offsetKept plan (row .left) x (row .extra)) e ∙ sym (keeps-offset-row plan row k) ∙ kept
+
+      go : Dec (row .extra ≡ 32768)
+          → has (cond (eqb (row .extra) 32768) domain (bothPlaces domain (onlyPlace slots))) (placeNumber slots (slotOf plan (row .left))) ≡ true
+      go (yes z) = rw (eq-eqb (row .extra) 32768 z) h
+      go (no n) = rw (ne-eqb (row .extra) 32768 n) (omission-stays domain (slotOf plan (row .left)) (own-offset plan (row .left) (row .extra) own n) h)
+
+  -- a row of a choice with itself, whatever its kind
+  pub self-stays : (plan : List ℕ) (row : Row) (domain : ℕ) → keepsRow plan row ≡ true → row .left ≡ row .right
+      → has domain (placeNumber slots (slotOf plan (row .left))) ≡ true → has (selfLeaves slots row domain) (placeNumber slots (slotOf plan (row .left))) ≡ true
+  self-stays plan row domain kept e h = go (ℕ-discrete (row .kind) 4) (ℕ-discrete (row .kind) 5)
+    where
+      go : Dec (row .kind ≡ 4) → Dec (row .kind ≡ 5) → has (selfLeaves slots row domain) (placeNumber slots (slotOf plan (row .left))) ≡ true
+      go (yes k) b = self-apart-stays plan row domain kept e k h
+      go (no a) (yes k) = self-offset-stays plan row domain kept e k h
+      go (no a) (no b) = ap (λ (x : ℕ). has x (placeNumber slots (slotOf plan (row .left)))) (sym (self-other slots row domain a b)) ∙ h
+
 -- ---- the domains
 
 module _ (choices slots : ℕ) (plan : List ℕ) (row : Row) (domains : List ℕ) (sized : length plan ≡ choices) (full : length domains ≡ 64)
@@ -187,8 +237,31 @@ module _ (choices slots : ℕ) (plan : List ℕ) (row : Row) (domains : List ℕ
           (set-within slots plan (set domains (row .left) one) (set-within slots plan domains w (row .left) one l λ k. kl)
           (row .right) (pairRight slots row one (getD domains (row .right) 0)) r λ k. keep-right nl nr one (getD domains (row .right) 0) kl hr)
 
+  -- a row of a choice with itself
+  pub self-within : ((domain : ℕ) → has domain (placeNumber slots (slotOf plan (row .left))) ≡ true → has (selfLeaves slots row domain) (placeNumber slots (slotOf plan (row .left))) ≡ true)
+      → Within slots plan (selfRule choices slots row domains)
+  self-within keeps = go (hasDomain choices (row .left)) refl
+    where
+      go : (b : Bool) → hasDomain choices (row .left) ≡ b → Within slots plan (selfRule choices slots row domains)
+      go true t =
+          let l : row .left < length domains = omega (arith, domain-below choices (row .left) t, full) in
+          subst (λ (d : List ℕ). Within slots plan d)
+          (self-by choices slots row domains (row .left) (selfLeaves slots row (getD domains (row .left) 0)) refl t refl)
+          (set-within slots plan domains w (row .left) (selfLeaves slots row (getD domains (row .left) 0)) l λ k. keeps (getD domains (row .left) 0) (within-at slots plan domains w (row .left) k))
+      go false t = subst (λ (d : List ℕ). Within slots plan d) (self-none choices slots row domains (row .left) refl t) w
+
   -- one law a kind
   module _ (few : slots ≤ 24) (kept : keepsRow plan row ≡ true) where
+    -- a row that names two choices, which may be one
+    pub between-within : Within slots plan (pairRule choices slots row domains) → Within slots plan (betweenRule choices slots row domains)
+    between-within pair = go (ℕ-discrete (row .left) (row .right))
+      where
+        go : Dec (row .left ≡ row .right) → Within slots plan (betweenRule choices slots row domains)
+        go (yes e) =
+            subst (λ (d : List ℕ). Within slots plan d) (between-one choices slots row domains e)
+            (self-within λ domain h. self-stays slots few plan row domain kept e h)
+        go (no n) = subst (λ (d : List ℕ). Within slots plan d) (between-two choices slots row domains n) pair
+
     pub within-1 : row .kind ≡ 1 → Within slots plan (rowRule choices slots row domains)
     within-1 k =
         subst (λ (d : List ℕ). Within slots plan d) (row-in-slot choices slots row domains k)
@@ -205,27 +278,27 @@ module _ (choices slots : ℕ) (plan : List ℕ) (row : Row) (domains : List ℕ
         let p = placeNumber slots (slotOf plan (row .left)) in
         let q = placeNumber slots (slotOf plan (row .right)) in
         subst (λ (d : List ℕ). Within slots plan d) (row-same-slot choices slots row domains k)
-        (pair-within
+        (between-within (pair-within
         (λ nl nr l r hl hr. ap (λ (x : ℕ). has x p) (sym (left-same slots row l r k)) ∙ both-stays l r p (below-64 slots few (slotOf plan (row .left))) hl (ap (has r) e ∙ hr))
-        (λ nl nr l r hl hr. ap (λ (x : ℕ). has x q) (sym (right-same slots row l r k)) ∙ both-stays l r q (below-64 slots few (slotOf plan (row .right))) (ap (has l) (sym e) ∙ hl) hr))
+        (λ nl nr l r hl hr. ap (λ (x : ℕ). has x q) (sym (right-same slots row l r k)) ∙ both-stays l r q (below-64 slots few (slotOf plan (row .right))) (ap (has l) (sym e) ∙ hl) hr)))
 
     pub within-4 : row .kind ≡ 4 → Within slots plan (rowRule choices slots row domains)
     within-4 k =
         let f = kind-4 plan row k .0 kept in
         subst (λ (d : List ℕ). Within slots plan d) (row-not-same-slot choices slots row domains k)
-        (pair-within
+        (between-within (pair-within
         (λ nl nr l r hl hr. ap (λ (x : ℕ). has x (placeNumber slots (slotOf plan (row .left)))) (sym (left-apart slots row l r k)) ∙ apart-stays slots few l r (slotOf plan (row .left)) (slotOf plan (row .right)) hl hr f)
-        (λ nl nr l r hl hr. ap (λ (x : ℕ). has x (placeNumber slots (slotOf plan (row .right)))) (sym (right-apart slots row l r k)) ∙ apart-stays slots few r l (slotOf plan (row .right)) (slotOf plan (row .left)) hr hl λ s. s ∙ f (sym s)))
+        (λ nl nr l r hl hr. ap (λ (x : ℕ). has x (placeNumber slots (slotOf plan (row .right)))) (sym (right-apart slots row l r k)) ∙ apart-stays slots few r l (slotOf plan (row .right)) (slotOf plan (row .left)) hr hl λ s. s ∙ f (sym s))))
 
     module _ (places : (choice : ℕ) → choice < length plan → Allowed slots (slotOf plan choice)) where
       pub within-5 : row .kind ≡ 5 → Within slots plan (rowRule choices slots row domains)
       within-5 k =
           subst (λ (d : List ℕ). Within slots plan d) (row-offset choices slots row domains k)
-          (pair-within
+          (between-within (pair-within
           (λ nl nr l r hl hr. ap (λ (x : ℕ). has x (placeNumber slots (slotOf plan (row .left)))) (left-faced slots l r (row .extra) ∙ left-offset slots row l r (row .extra) refl k)
           ∙∙ facing-stays slots few l r (row .extra) 32768 (slotOf plan (row .left)) (slotOf plan (row .right)) hl hr (faces-back slots few 32768 (row .extra) (slotOf plan (row .right)) (slotOf plan (row .left)) (faces nl nr)))
           (λ nl nr l r hl hr. ap (λ (x : ℕ). has x (placeNumber slots (slotOf plan (row .right)))) (right-faced slots l r (row .extra) ∙ right-offset slots row l r (row .extra) refl k)
-          ∙∙ facing-stays slots few r l 32768 (row .extra) (slotOf plan (row .right)) (slotOf plan (row .left)) hr hl (faces nl nr)))
+          ∙∙ facing-stays slots few r l 32768 (row .extra) (slotOf plan (row .right)) (slotOf plan (row .left)) hr hl (faces nl nr))))
         where
           infixr 20 _∙∙_
           _∙∙_ : {a b c : Bool} → a ≡ b → a ≡ c → b ≡ c

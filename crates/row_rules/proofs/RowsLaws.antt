@@ -22,7 +22,7 @@ use Rattle.place_sets.specs.Domains.{Within}
 use Rattle.place_sets.proofs.DomainLaws.{feasible-place}
 use Rattle.slot_rules.specs.SlotRules.{limitRule}
 use Rattle.slot_rules.proofs.LimitLaws.{limit-length, limit-within}
-use Rattle.row_rules.specs.RowRules.{hasDomain, slotLeaves, slotRule, pairLeft, pairRight, pairSet, pairRule, rowRule}
+use Rattle.row_rules.specs.RowRules.{hasDomain, slotLeaves, slotRule, pairLeft, pairRight, pairSet, pairRule, selfLeaves, selfRule, betweenRule, rowRule}
 use Rattle.row_rules.specs.RowsRule.{anyRule, rowsRule}
 use Rattle.row_rules.proofs.RowLaws.{Allowed, row-within}
 
@@ -92,14 +92,26 @@ module _ (choices slots : ℕ) (row : Row) (domains : List ℕ) where
           length-set (set domains (row .left) one) (row .right) (pairRight slots row one (getD domains (row .right) 0))
           ∙ length-set domains (row .left) one
 
+  self-length : length (selfRule choices slots row domains) ≡ length domains
+  unfolding selfRule
+  self-length =
+      either (hasDomain choices (row .left)) (set domains (row .left) (selfLeaves slots row (getD domains (row .left) 0))) domains (length domains)
+      (length-set domains (row .left) (selfLeaves slots row (getD domains (row .left) 0)))
+      refl
+
+  between-length : length (betweenRule choices slots row domains) ≡ length domains
+  unfolding betweenRule
+  between-length =
+      either (eqb (row .left) (row .right)) (selfRule choices slots row domains) (pairRule choices slots row domains) (length domains) self-length pair-length
+
   pub row-length : length (rowRule choices slots row domains) ≡ length domains
   unfolding rowRule
   row-length =
       let n = length domains in
-      let p = pairRule choices slots row domains in
-      let e5 = either (eqb (row .kind) 5) p domains n pair-length refl in
-      let e4 = either (eqb (row .kind) 4) p (cond (eqb (row .kind) 5) p domains) n pair-length e5 in
-      let e3 = either (eqb (row .kind) 3) p (cond (eqb (row .kind) 4) p (cond (eqb (row .kind) 5) p domains)) n pair-length e4 in
+      let p = betweenRule choices slots row domains in
+      let e5 = either (eqb (row .kind) 5) p domains n between-length refl in
+      let e4 = either (eqb (row .kind) 4) p (cond (eqb (row .kind) 5) p domains) n between-length e5 in
+      let e3 = either (eqb (row .kind) 3) p (cond (eqb (row .kind) 4) p (cond (eqb (row .kind) 5) p domains)) n between-length e4 in
       let r3 = cond (eqb (row .kind) 3) p (cond (eqb (row .kind) 4) p (cond (eqb (row .kind) 5) p domains)) in
       let e2 = either (eqb (row .kind) 2) (slotRule choices slots row false domains) r3 n (slot-length false) e3 in
       either (eqb (row .kind) 1) (slotRule choices slots row true domains) (cond (eqb (row .kind) 2) (slotRule choices slots row false domains) r3) n (slot-length true) e2

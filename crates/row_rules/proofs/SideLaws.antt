@@ -12,9 +12,9 @@ use Rattle.lists.proofs.Below.{and-left, and-right}
 use Rattle.constraint.specs.declared.row.Row.{Row}
 use Rattle.choice_sets.specs.Sets.{has, setOf}
 use Rattle.choice_sets.proofs.SetLaws.{set-back}
-use Rattle.place_sets.specs.Domains.{keptPlaces, bothPlaces, inOneSlot}
+use Rattle.place_sets.specs.Domains.{onlyPlace, keptPlaces, bothPlaces, inOneSlot}
 use Rattle.place_sets.proofs.PlaceLaws.{minus-law}
-use Rattle.row_rules.specs.RowRules.{hasDomain, slotLeaves, slotRule, apart, facingPlaces, rightOf, leftOf, pairLeft, pairRight, pairSet, pairRule, rowRule}
+use Rattle.row_rules.specs.RowRules.{hasDomain, slotLeaves, slotRule, apart, facingPlaces, rightOf, leftOf, pairLeft, pairRight, pairSet, pairRule, selfLeaves, selfRule, betweenRule, rowRule}
 
 -- a number that isn't a kind, where the kind is read first
 pub none-of : {x k n : ℕ} → x ≡ k → (x ≡ n → ⊥) → k ≡ n → ⊥
@@ -108,6 +108,33 @@ module _ (slots : ℕ) (row : Row) (left right : ℕ) where
     unfolding pairRight
     right-other = rw (ne-eqb (row .kind) 3 a, ne-eqb (row .kind) 4 b, ne-eqb (row .kind) 5 c)
 
+-- ---- a choice with itself, by the offset and by the kind
+
+module _ (domain alone extra : ℕ) where
+  pub own-zero : extra ≡ 32768 → domain ≡ cond (eqb extra 32768) domain alone
+  own-zero e = rw (eq-eqb extra 32768 e)
+
+  pub own-other : (extra ≡ 32768 → ⊥) → alone ≡ cond (eqb extra 32768) domain alone
+  own-other n = rw (ne-eqb extra 32768 n)
+
+module _ (slots : ℕ) (row : Row) (domain : ℕ) where
+  pub self-apart : row .kind ≡ 4 → bothPlaces domain (onlyPlace slots) ≡ selfLeaves slots row domain
+  unfolding selfLeaves
+  self-apart e = rw e
+
+  pub self-offset : (extra : ℕ) → extra ≡ row .extra → row .kind ≡ 5
+      → cond (eqb extra 32768) domain (bothPlaces domain (onlyPlace slots)) ≡ selfLeaves slots row domain
+  unfolding selfLeaves
+  self-offset extra x e = rw (e, x) (turned (eqb (row .extra) 32768))
+    where
+      turned : (b : Bool) → cond b domain (bothPlaces domain (onlyPlace slots)) ≡ cond (not b) (bothPlaces domain (onlyPlace slots)) domain
+      turned true = refl
+      turned false = refl
+
+  pub self-other : (row .kind ≡ 4 → ⊥) → (row .kind ≡ 5 → ⊥) → domain ≡ selfLeaves slots row domain
+  unfolding selfLeaves
+  self-other a b = rw (ne-eqb (row .kind) 4 a, ne-eqb (row .kind) 5 b)
+
 -- ---- the domains
 
 module _ (choices slots : ℕ) (row : Row) (domains : List ℕ) where
@@ -147,6 +174,29 @@ module _ (choices slots : ℕ) (row : Row) (domains : List ℕ) where
       (g ∙ ap₂ (λ (x y : ℕ). pairLeft slots row (getD domains x 0) (getD domains y 0)) e f)
       (h ∙ ap (λ (y : ℕ). pairRight slots row one (getD domains y 0)) f)
 
+  pub self-none : (left : ℕ) → left ≡ row .left → hasDomain choices left ≡ false → domains ≡ selfRule choices slots row domains
+  unfolding selfRule
+  self-none left e t = rw (sym e, t)
+
+  self-at : (v : ℕ) → hasDomain choices (row .left) ≡ true → v ≡ selfLeaves slots row (getD domains (row .left) 0)
+      → set domains (row .left) v ≡ selfRule choices slots row domains
+  unfolding selfRule
+  self-at v t g = rw (t, g)
+
+  pub self-by : (left v : ℕ) → left ≡ row .left → hasDomain choices left ≡ true → v ≡ selfLeaves slots row (getD domains left 0)
+      → set domains left v ≡ selfRule choices slots row domains
+  self-by left v e t g =
+      ap (λ (x : ℕ). set domains x v) e
+      ∙ self-at v (ap (hasDomain choices) (sym e) ∙ t) (g ∙ ap (λ (x : ℕ). selfLeaves slots row (getD domains x 0)) e)
+
+  pub between-one : row .left ≡ row .right → selfRule choices slots row domains ≡ betweenRule choices slots row domains
+  unfolding betweenRule
+  between-one e = rw (eq-eqb (row .left) (row .right) e)
+
+  pub between-two : (row .left ≡ row .right → ⊥) → pairRule choices slots row domains ≡ betweenRule choices slots row domains
+  unfolding betweenRule
+  between-two n = rw (ne-eqb (row .left) (row .right) n)
+
   -- by the kind
   pub row-in-slot : row .kind ≡ 1 → slotRule choices slots row true domains ≡ rowRule choices slots row domains
   unfolding rowRule
@@ -156,16 +206,16 @@ module _ (choices slots : ℕ) (row : Row) (domains : List ℕ) where
   unfolding rowRule
   row-not-in-slot e = rw e
 
-  pub row-same-slot : row .kind ≡ 3 → pairRule choices slots row domains ≡ rowRule choices slots row domains
+  pub row-same-slot : row .kind ≡ 3 → betweenRule choices slots row domains ≡ rowRule choices slots row domains
   unfolding rowRule
   row-same-slot e = rw (eq-eqb (row .kind) 3 e, ne-eqb (row .kind) 1 (λ f. absurd (omega (arith, e, f))), ne-eqb (row .kind) 2 (λ f. absurd (omega (arith, e, f))))
 
-  pub row-not-same-slot : row .kind ≡ 4 → pairRule choices slots row domains ≡ rowRule choices slots row domains
+  pub row-not-same-slot : row .kind ≡ 4 → betweenRule choices slots row domains ≡ rowRule choices slots row domains
   unfolding rowRule
   row-not-same-slot e =
       rw (eq-eqb (row .kind) 4 e, ne-eqb (row .kind) 1 (λ f. absurd (omega (arith, e, f))), ne-eqb (row .kind) 2 (λ f. absurd (omega (arith, e, f))), ne-eqb (row .kind) 3 (λ f. absurd (omega (arith, e, f))))
 
-  pub row-offset : row .kind ≡ 5 → pairRule choices slots row domains ≡ rowRule choices slots row domains
+  pub row-offset : row .kind ≡ 5 → betweenRule choices slots row domains ≡ rowRule choices slots row domains
   unfolding rowRule
   row-offset e =
       rw (eq-eqb (row .kind) 5 e, ne-eqb (row .kind) 1 (λ f. absurd (omega (arith, e, f))), ne-eqb (row .kind) 2 (λ f. absurd (omega (arith, e, f))), ne-eqb (row .kind) 3 (λ f. absurd (omega (arith, e, f))), ne-eqb (row .kind) 4 (λ f. absurd (omega (arith, e, f))))

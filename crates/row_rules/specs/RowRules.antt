@@ -6,7 +6,7 @@ use lib.Dec.{eqb, ltb, leb}
 use lib.ListN.{getD, set}
 use Rattle.constraint.specs.declared.row.Row.{Row}
 use Rattle.choice_sets.specs.Sets.{has, setOf}
-use Rattle.place_sets.specs.Domains.{keptPlaces, bothPlaces, inOneSlot}
+use Rattle.place_sets.specs.Domains.{onlyPlace, keptPlaces, bothPlaces, inOneSlot}
 
 -- a choice of the day that has a domain: no domain is past 63
 unfoldable pub hasDomain : ℕ → ℕ → Bool
@@ -72,12 +72,29 @@ pairRule choices slots row domains =
     (pairSet slots row domains (pairLeft slots row (getD domains (row .left) 0) (getD domains (row .right) 0)))
     domains
 
+-- kinds 4 and 5 of a choice with itself: no slot is another than itself, and an offset other than 0 leads to another; omission alone is left
+unfoldable pub selfLeaves : ℕ → Row → ℕ → ℕ
+selfLeaves slots row domain =
+    cond (eqb (row .kind) 4 || (eqb (row .kind) 5 && not (eqb (row .extra) 32768))) (bothPlaces domain (onlyPlace slots)) domain
+
+-- a row of a choice with itself
+unfoldable pub selfRule : ℕ → ℕ → Row → List ℕ → List ℕ
+selfRule choices slots row domains =
+    cond (hasDomain choices (row .left))
+    (set domains (row .left) (selfLeaves slots row (getD domains (row .left) 0)))
+    domains
+
+-- a row that names two choices, which may be one
+unfoldable pub betweenRule : ℕ → ℕ → Row → List ℕ → List ℕ
+betweenRule choices slots row domains =
+    cond (eqb (row .left) (row .right)) (selfRule choices slots row domains) (pairRule choices slots row domains)
+
 -- what a row leaves, by its kind; one of another kind takes nothing away here
 unfoldable pub rowRule : ℕ → ℕ → Row → List ℕ → List ℕ
 rowRule choices slots row domains =
     cond (eqb (row .kind) 1) (slotRule choices slots row true domains)
     (cond (eqb (row .kind) 2) (slotRule choices slots row false domains)
-    (cond (eqb (row .kind) 3) (pairRule choices slots row domains)
-    (cond (eqb (row .kind) 4) (pairRule choices slots row domains)
-    (cond (eqb (row .kind) 5) (pairRule choices slots row domains)
+    (cond (eqb (row .kind) 3) (betweenRule choices slots row domains)
+    (cond (eqb (row .kind) 4) (betweenRule choices slots row domains)
+    (cond (eqb (row .kind) 5) (betweenRule choices slots row domains)
     domains))))

@@ -1,12 +1,13 @@
 // Domains narrowed by a row.
 use super::sides::left_side;
 use super::sides::right_side;
+use super::sides::self_leaves;
 use super::sides::slot_leaves;
 use constraint::kind::Kind;
 use constraint::row::Row;
 ghost use mathlib.Core.Path.{_≡_};
 ghost use Rattle.constraint.specs.Row.{rowOf};
-ghost use Rattle.row_rules.specs.RowRules.{hasDomain, slotRule, pairRule, rowRule};
+ghost use Rattle.row_rules.specs.RowRules.{hasDomain, slotRule, pairRule, selfRule, betweenRule, rowRule};
 
 // Whether a choice of the day has a domain; no domain is past 63.
 fn has_domain(choices: usize, choice: usize) -> bool
@@ -30,7 +31,7 @@ fn narrow_by_slot(choices: usize, slots: usize, number: u64, stands: bool, domai
     domains[left] = slot_leaves(slots, slot, stands, domains[left]);
 }
 
-// Kinds 3 to 5: left by right, then right by what is left of left.
+// Kinds 3 to 5 between two choices: left by right, then right by what is left of left.
 fn narrow_pair(choices: usize, slots: usize, number: u64, domains: &mut [u64; 64])
     ensures { λ _. ⌜ now (domains .exit) ≡ pairRule choices slots (rowOf number) (now (domains .entry)) ⌝ }
 {
@@ -48,6 +49,28 @@ fn narrow_pair(choices: usize, slots: usize, number: u64, domains: &mut [u64; 64
     domains[right] = right_side(slots, number, narrowed, other);
 }
 
+// Kinds 3 to 5 of a choice with itself: the domain of the choice alone.
+fn narrow_self(choices: usize, slots: usize, number: u64, domains: &mut [u64; 64])
+    ensures { λ _. ⌜ now (domains .exit) ≡ selfRule choices slots (rowOf number) (now (domains .entry)) ⌝ }
+{
+    let left = Row::left_of(number) as usize;
+    if !has_domain(choices, left) {
+        return;
+    }
+    domains[left] = self_leaves(slots, number, domains[left]);
+}
+
+// Kinds 3 to 5, whether they name one choice or two.
+fn narrow_between(choices: usize, slots: usize, number: u64, domains: &mut [u64; 64])
+    ensures { λ _. ⌜ now (domains .exit) ≡ betweenRule choices slots (rowOf number) (now (domains .entry)) ⌝ }
+{
+    if Row::left_of(number) == Row::right_of(number) {
+        narrow_self(choices, slots, number, domains);
+        return;
+    }
+    narrow_pair(choices, slots, number, domains);
+}
+
 // What a number's row leaves of the domains, by its kind; one of another kind takes nothing away here.
 pub fn narrow_by_row(choices: usize, slots: usize, number: u64, domains: &mut [u64; 64])
     ensures { λ _. ⌜ now (domains .exit) ≡ rowRule choices slots (rowOf number) (now (domains .entry)) ⌝ }
@@ -55,9 +78,9 @@ pub fn narrow_by_row(choices: usize, slots: usize, number: u64, domains: &mut [u
     match Row::kind_of(number) {
         Kind::CHOICE_IS_IN_SLOT => narrow_by_slot(choices, slots, number, true, domains),
         Kind::CHOICE_IS_NOT_IN_SLOT => narrow_by_slot(choices, slots, number, false, domains),
-        Kind::CHOICES_ARE_IN_SAME_SLOT => narrow_pair(choices, slots, number, domains),
-        Kind::CHOICES_ARE_NOT_IN_SAME_SLOT => narrow_pair(choices, slots, number, domains),
-        Kind::CHOICES_HAVE_OFFSET => narrow_pair(choices, slots, number, domains),
+        Kind::CHOICES_ARE_IN_SAME_SLOT => narrow_between(choices, slots, number, domains),
+        Kind::CHOICES_ARE_NOT_IN_SAME_SLOT => narrow_between(choices, slots, number, domains),
+        Kind::CHOICES_HAVE_OFFSET => narrow_between(choices, slots, number, domains),
         _ => {}
     }
 }

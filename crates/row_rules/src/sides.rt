@@ -1,13 +1,17 @@
-// What a row leaves of one domain: of its choice's where it names a slot, of each side's where it names two choices.
+// What a row leaves of one domain: of its choice's where it names a slot, of each side's where it names two choices, of the one's where it names it twice.
 use super::moves::facing_places;
 use constraint::kind::Kind;
 use constraint::row::Row;
 use place_sets::places::both;
 use place_sets::places::in_one_slot;
 use place_sets::places::kept;
+use place_sets::places::only;
 ghost use mathlib.Core.Path.{_≡_};
+ghost use mathlib.Core.Bool.{cond};
+ghost use lib.Dec.{eqb};
 ghost use Rattle.constraint.specs.Row.{rowOf};
-ghost use Rattle.row_rules.specs.RowRules.{slotLeaves, apart, rightOf, leftOf, pairLeft, pairRight};
+ghost use Rattle.place_sets.specs.Domains.{onlyPlace, bothPlaces};
+ghost use Rattle.row_rules.specs.RowRules.{slotLeaves, apart, rightOf, leftOf, pairLeft, pairRight, selfLeaves};
 
 // Kinds 1 and 2: the slot alone, or any place but the slot. A slot past the day's takes nothing away.
 pub(crate) fn slot_leaves(slots: usize, slot: usize, stands: bool, domain: u64) -> u64
@@ -64,5 +68,33 @@ pub(crate) fn right_side(slots: usize, number: u64, left: u64, right: u64) -> u6
         Kind::CHOICES_ARE_NOT_IN_SAME_SLOT => apart_from(slots, right, left),
         Kind::CHOICES_HAVE_OFFSET => right_by_offset(slots, left, right, Row::extra_of(number)),
         _ => right,
+    }
+}
+
+// Omission, if the domain has it.
+fn omission_alone(slots: usize, domain: u64) -> u64
+    ensures { λ r. ⌜ r ≡ bothPlaces domain (onlyPlace slots) ⌝ }
+{
+    both(domain, only(slots))
+}
+
+// Kind 5 of a choice with itself: every place has offset 0 to itself, and omission alone has any other.
+fn own_offset_leaves(slots: usize, domain: u64, extra: u16) -> u64
+    ensures { λ r. ⌜ r ≡ cond (eqb extra 32768) domain (bothPlaces domain (onlyPlace slots)) ⌝ }
+{
+    if extra == 32_768 {
+        return domain;
+    }
+    omission_alone(slots, domain)
+}
+
+// What a number's row of a choice with itself leaves of its domain.
+pub(crate) fn self_leaves(slots: usize, number: u64, domain: u64) -> u64
+    ensures { λ r. ⌜ r ≡ selfLeaves slots (rowOf number) domain ⌝ }
+{
+    match Row::kind_of(number) {
+        Kind::CHOICES_ARE_NOT_IN_SAME_SLOT => omission_alone(slots, domain),
+        Kind::CHOICES_HAVE_OFFSET => own_offset_leaves(slots, domain, Row::extra_of(number)),
+        _ => domain,
     }
 }

@@ -25,8 +25,7 @@ use Rattle.weight_tables.proofs.TableLaws.{written-in, entry-least}
 use Rattle.weight_tables.proofs.StartLaws.{stands-only, start-sum}
 use Rattle.place_sets.specs.Domains.{placeNumber}
 use Rattle.place_sets.proofs.DomainLaws.{number-in}
-use Rattle.table_rule.specs.Rule.{needOf, slotKept}
-use Rattle.table_rule.specs.Enough.{lackAt, lacksAt, weightAfter, enoughWith, enoughAsked, enoughPlaces}
+use Rattle.table_rule.specs.Enough.{lackAt, lacksAt, needOf, weightAfter, slotKept, enoughWith, enoughAsked, enoughPlaces}
 use Rattle.table_rule.proofs.FillLaws.{lacks-weigh, change-one}
 
 -- what is written for a slot stands at its place
@@ -39,6 +38,18 @@ written-at slots f few slot hs =
 pub lack-at : (choosers slots : ℕ) (fills : List ℕ) → slots ≤ 24 → (slot : ℕ) → slot < slots → getD (lacksAt choosers slots fills) slot 0 ≡ choosers - getD fills slot 0
 unfolding lacksAt lackAt
 lack-at choosers slots fills few slot hs = written-at slots (lackAt choosers fills) few slot hs
+
+-- what the lacks weigh, one slot more
+pub need-start : (entry : ℕ → ℕ → ℕ → ℕ) (table from : ℕ) (lacks : List ℕ) → 0 ≡ needOf entry 0 table from lacks
+unfolding needOf sumBelow
+need-start entry table from lacks = refl
+
+pub need-step : (entry : ℕ → ℕ → ℕ → ℕ) (table from : ℕ) (lacks : List ℕ) (slot need part : ℕ) → need ≡ needOf entry slot table from lacks
+    → part ≡ entry table from (getD lacks slot 0) → need + part ≡ needOf entry (slot + 1) table from lacks
+unfolding needOf
+need-step entry table from lacks slot need part n p =
+    let f : ℕ → ℕ = λ s. entry table from (getD lacks s 0) in
+    ap (λ (x : ℕ). x + part) n ∙ ap (λ (x : ℕ). sumBelow slot f + x) p ∙ sym (sum-more f slot)
 
 module _ (day : Day) (plan tables : List ℕ) (feasibly : feasible day plan ≡ true) (len : length plan ≡ day .counts .choices)
     (filled : Filled (day .counts) (day .maxs) tables) (few : day .counts .choices ≤ 64) (held : day .counts .choosers ≤ 200)

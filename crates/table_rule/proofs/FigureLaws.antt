@@ -2,18 +2,19 @@
 use mathlib.Core.Path.{_≡_, refl, sym, _∙_, ap}
 use mathlib.Core.Bool.{Bool, true, false, not, cond}
 use mathlib.Core.List.{List}
-use Prim.Native.Nat.{ℕ, zero, suc, _+_, _≤_, _<_}
+use Prim.Native.Nat.{ℕ, zero, suc, _+_, _≤_, _<_, _^_}
 use native.Mathlib.Decide.{ℕ-discrete}
 use native.Mathlib.Numerals.{add-one}
 use native.Mathlib.Nat.{not-suc-le-zero}
 use native.Mathlib.Omega.{arith}
-use borrow.Author.Tests.{lt-ltb, le-ltb, ltb-false, lt-leb, le-leb, eq-eqb, ne-eqb}
+use borrow.Author.Tests.{lt-ltb, le-ltb, ltb-true, ltb-false, lt-leb, le-leb, eq-eqb, ne-eqb}
 use lib.Dec.{ltb, leb}
 use lib.ListN.{length, getD, replicate}
 use Rattle.constraint.specs.declared.check.Counts.{Counts}
 use Rattle.choice_sets.specs.Sets.{has, setOf, withChoice}
-use Rattle.choice_sets.proofs.SetLaws.{with-next, set-skip, set-none}
-use Rattle.place_sets.specs.Domains.{settled}
+use Rattle.choice_sets.proofs.SetLaws.{has-past, with-next, set-skip, set-none}
+use Rattle.place_sets.specs.Domains.{settled, lowestPlace, lowestFrom}
+use Rattle.place_sets.proofs.LowestLaws.{lowest-has, lowest-le}
 use Rattle.table_rule.specs.Figures.{freeOf, firstIn, lacksOf, lacksIn}
 
 -- a set with one choice more, or as it was
@@ -44,29 +45,56 @@ pub free-start : (domains : List ℕ) → 0 ≡ freeOf 0 domains
 unfolding freeOf
 free-start domains = set-start λ choice. not (settled (getD domains choice 0))
 
--- the first of a set: none yet, and found
-pub first-start : (s : ℕ) → firstIn 0 s ≡ 0
+-- the first of a set: none of the first so many is in it, or the lowest one
+first-all : (n set : ℕ) → ((choice : ℕ) → choice < n → has set choice ≡ false) → firstIn n set ≡ n
 unfolding firstIn
-first-start s = refl
+first-all zero set h = refl
+first-all (suc n) set h =
+    let e : firstIn n set ≡ n = first-all n set (λ choice l. h choice (omega arith)) in
+    rw (e, le-ltb n n (omega arith), h n (omega arith))
 
-pub first-step : (n s : ℕ) (b : Bool) → firstIn n s ≡ n → b ≡ has s n → b ≡ false → firstIn (n + 1) s ≡ n + 1
+first-found : (n set : ℕ) → firstIn n set ≡ n → has set n ≡ true → (m : ℕ) → n < m → n ≡ firstIn m set
 unfolding firstIn
-first-step n s b e m t = rw (add-one n, e, le-ltb n n (omega arith), sym m, t)
-
-pub first-found : (n s : ℕ) (b : Bool) → firstIn n s ≡ n → b ≡ has s n → b ≡ true → (m : ℕ) → n < m → n ≡ firstIn m s
-unfolding firstIn
-first-found n s b e g t zero h = absurd (not-suc-le-zero h)
-first-found n s b e g t (suc m) h = go (ℕ-discrete n m) (first-found n s b e g t m)
+first-found n set e t zero h = absurd (not-suc-le-zero h)
+first-found n set e t (suc m) h = go (ℕ-discrete n m) (first-found n set e t m)
   where
-    go : Dec (n ≡ m) → (n < m → n ≡ firstIn m s) → n ≡ cond (ltb (firstIn m s) m) (firstIn m s) (cond (has s m) m (suc m))
+    go : Dec (n ≡ m) → (n < m → n ≡ firstIn m set) → n ≡ cond (ltb (firstIn m set) m) (firstIn m set) (cond (has set m) m (suc m))
     go (yes q) ih =
-        let a : firstIn m s ≡ m = rw (sym q) e in
-        let c : has s m ≡ true = rw (sym q) (sym g ∙ t) in
+        let a : firstIn m set ≡ m = rw (sym q) e in
+        let c : has set m ≡ true = rw (sym q) t in
         rw (a, le-ltb m m (omega arith), c) q
     go (no q) ih =
-        let a : n ≡ firstIn m s = ih (omega (arith, q)) in
-        let l : firstIn m s < m = omega (arith, a, q) in
-        rw (lt-ltb (firstIn m s) m l) a
+        let a : n ≡ firstIn m set = ih (omega (arith, q)) in
+        let l : firstIn m set < m = omega (arith, a, q) in
+        rw (lt-ltb (firstIn m set) m l) a
+
+module _ (choices set first : ℕ) (e : first ≡ lowestPlace set) where
+  not-below : (choice : ℕ) → choice < 64 → choice < first → has set choice ≡ false
+  unfolding lowestPlace
+  not-below choice h l = go (has set choice) refl
+    where
+      go : (b : Bool) → has set choice ≡ b → b ≡ false
+      go true t = absurd (omega (arith, e, l, lowest-le 0 64 set choice (omega arith) (omega arith) t))
+      go false t = refl
+
+  -- the set is empty
+  pub first-of-none : set < 2 ^ 64 → 64 ≤ first → choices ≡ firstIn choices set
+  first-of-none f h = sym (first-all choices set λ choice l. out choice (ltb choice 64) refl)
+    where
+      out : (choice : ℕ) (b : Bool) → ltb choice 64 ≡ b → has set choice ≡ false
+      out choice true t = let k : choice < 64 = ltb-true choice 64 t in not-below choice k (omega (arith, k, h))
+      out choice false t = has-past set 64 choice f (ltb-false choice 64 t)
+
+  module _ (low : first < 64) where
+    -- all of it lies past the day's choices
+    pub first-past : choices ≤ first → choices ≡ firstIn choices set
+    first-past h = sym (first-all choices set λ choice l. not-below choice (omega (arith, low, h)) (omega (arith, h)))
+
+    pub first-is : first < choices → first ≡ firstIn choices set
+    unfolding lowestPlace
+    first-is h =
+        first-found first set (first-all first set λ choice l. not-below choice (omega (arith, low)) l)
+        (ap (has set) e ∙ lowest-has 0 64 set (omega (arith, e, low))) choices h
 
 -- the first choice of a set: no choice before it is in the set
 pub first-le : (n set : ℕ) → firstIn n set ≤ n

@@ -1,7 +1,7 @@
 -- Sums behind the rule: lacks of disjoint sets weighed together, and one term taken apart.
 use mathlib.Core.Path.{_≡_, refl, sym, _∙_, ap}
 use mathlib.Core.Bool.{Bool, true, false, _&&_, not, cond}
-use Prim.Native.Nat.{ℕ, zero, suc, _+_, _-_, _≤_, _<_}
+use Prim.Native.Nat.{ℕ, zero, suc, _+_, _-_, _≤_, _<_, max}
 use native.Mathlib.Decide.{ℕ-discrete}
 use native.Mathlib.Nat.{not-suc-le-zero}
 use native.Mathlib.Omega.{arith}
@@ -19,28 +19,46 @@ both-le true false x = omega arith
 both-le false true x = omega arith
 both-le false false x = omega arith
 
--- the slots' lacks, each filled by choices inside that stand there, weigh no more together than the choices inside
+-- what each slot needs, where the choices inside that stand there weigh as much, is together no more than the choices inside weigh
 module _ (weight most : ℕ → ℕ) (inside : ℕ → Bool) (stands : ℕ → ℕ → Bool) (place : ℕ → ℕ)
     (only : (choice slot : ℕ) → stands choice slot ≡ true → place choice ≡ slot) (slots from count : ℕ) where
+  needs-weigh : (need : ℕ → ℕ)
+      → ((slot : ℕ) → slot < slots → need slot ≤ sumFrom from count λ choice. cond (stands choice slot) (cond (inside choice) (weight choice) 0) 0)
+      → sumBelow slots need ≤ sumFrom from count λ choice. cond (inside choice) (weight choice) 0
+  needs-weigh need h =
+      let w : ℕ → ℕ = λ choice. cond (inside choice) (weight choice) 0 in
+      let g : ℕ → ℕ = λ slot. sumFrom from count λ choice. cond (stands choice slot) (w choice) 0 in
+      let a : sumBelow slots need ≤ sumBelow slots g = below-le slots need g h in
+      let b : sumBelow slots g ≤ sumFrom from count w = slots-weigh w stands place only slots from count in
+      omega (arith, a, b)
+
+  -- choices inside that stand in a slot weigh no less than the entry of what they sum up to
+  slot-weighs : (amount : ℕ → ℕ) (slot lack : ℕ) → lack ≤ sumFrom from count (λ choice. cond (inside choice && stands choice slot) (amount choice) 0)
+      → least weight amount from count lack ≤ sumFrom from count λ choice. cond (stands choice slot) (cond (inside choice) (weight choice) 0) 0
+  slot-weighs amount slot lack h =
+      let a = least-weighs weight amount (λ choice. inside choice && stands choice slot) from count lack h in
+      let b = from-le from count (λ choice. cond (inside choice && stands choice slot) (weight choice) 0)
+      (λ choice. cond (stands choice slot) (cond (inside choice) (weight choice) 0) 0)
+      (λ k lo hi. both-le (inside k) (stands k slot) (weight k)) in
+      omega (arith, a, b)
+
+  -- the slots' lacks, each filled by choices inside that stand there
   pub lacks-weigh : (lack : ℕ → ℕ)
       → ((slot : ℕ) → slot < slots → lack slot ≤ sumFrom from count (λ choice. cond (inside choice && stands choice slot) (most choice) 0))
       → sumBelow slots (λ slot. least weight most from count (lack slot)) ≤ sumFrom from count λ choice. cond (inside choice) (weight choice) 0
-  lacks-weigh lack h =
-      let w : ℕ → ℕ = λ choice. cond (inside choice) (weight choice) 0 in
-      let f : ℕ → ℕ = λ slot. least weight most from count (lack slot) in
-      let g : ℕ → ℕ = λ slot. sumFrom from count λ choice. cond (stands choice slot) (w choice) 0 in
-      let a : sumBelow slots f ≤ sumBelow slots g = below-le slots f g λ slot hs. each slot hs in
-      let b : sumBelow slots g ≤ sumFrom from count w = slots-weigh w stands place only slots from count in
+  lacks-weigh lack h = needs-weigh (λ slot. least weight most from count (lack slot)) λ slot hs. slot-weighs most slot (lack slot) (h slot hs)
+
+  -- the lacks, where in each slot so many choices inside stand besides
+  pub both-weigh : (lack want : ℕ → ℕ)
+      → ((slot : ℕ) → slot < slots → lack slot ≤ sumFrom from count (λ choice. cond (inside choice && stands choice slot) (most choice) 0))
+      → ((slot : ℕ) → slot < slots → want slot ≤ sumFrom from count (λ choice. cond (inside choice && stands choice slot) 1 0))
+      → sumBelow slots (λ slot. max (least weight most from count (lack slot)) (least weight (λ choice. 1) from count (want slot)))
+      ≤ sumFrom from count λ choice. cond (inside choice) (weight choice) 0
+  both-weigh lack want h k =
+      needs-weigh (λ slot. max (least weight most from count (lack slot)) (least weight (λ choice. 1) from count (want slot))) λ slot hs.
+      let a = slot-weighs most slot (lack slot) (h slot hs) in
+      let b = slot-weighs (λ choice. 1) slot (want slot) (k slot hs) in
       omega (arith, a, b)
-    where
-      each : (slot : ℕ) → slot < slots
-          → least weight most from count (lack slot) ≤ sumFrom from count λ choice. cond (stands choice slot) (cond (inside choice) (weight choice) 0) 0
-      each slot hs =
-          let a = least-weighs weight most (λ choice. inside choice && stands choice slot) from count (lack slot) (h slot hs) in
-          let b = from-le from count (λ choice. cond (inside choice && stands choice slot) (weight choice) 0)
-          (λ choice. cond (stands choice slot) (cond (inside choice) (weight choice) 0) 0)
-          (λ k lo hi. both-le (inside k) (stands k slot) (weight k)) in
-          omega (arith, a, b)
 
 -- one term apart
 pub one-out : (from count i : ℕ) (g : ℕ → ℕ) → from ≤ i → i < from + count

@@ -19,8 +19,8 @@ use Rattle.weight_tables.specs.Tables.{tablesFit}
 use Rattle.weight_tables.proofs.WeightLaws.{below-zeros}
 use Rattle.place_sets.specs.Domains.{eachBelow}
 use Rattle.place_sets.proofs.DomainLaws.{each-at, each-same}
-use Rattle.table_rule.specs.Figures.{freeOf, firstIn, lacksOf}
-use Rattle.table_rule.specs.Rule.{needOf, spareOf, slotKept, leftOf, tableRule, tablesBelow, fourTables, tablesRule}
+use Rattle.table_rule.specs.Figures.{firstIn}
+use Rattle.table_rule.specs.Rule.{slotNeeds, needed, spareOf, slotStays, leftOf, tableRule, tablesBelow, tablesRule}
 use Rattle.table_rule.specs.steps.Heaviest.{heaviestOf}
 use Rattle.table_rule.proofs.FigureLaws.{first-before}
 
@@ -82,77 +82,78 @@ module _ (weight : ℕ → ℕ → ℕ) (table free : ℕ) where
 pub next-same : (free : Bool) (x domain : ℕ) → free ≡ false → domain ≡ cond free x domain
 next-same free x domain t = rw t
 
-module _ (entry : ℕ → ℕ → ℕ → ℕ) where
-  -- what the lacks weigh, one slot more
-  pub need-start : (table from : ℕ) (lacks : List ℕ) → 0 ≡ needOf entry 0 table from lacks
-  unfolding needOf sumBelow
-  need-start table from lacks = refl
+module _ (entry light : ℕ → ℕ → ℕ → ℕ) where
+  -- what the slots need, one slot more
+  pub needed-start : (table from : ℕ) (lacks wants : List ℕ) → 0 ≡ needed entry light 0 table from lacks wants
+  unfolding needed sumBelow
+  needed-start table from lacks wants = refl
 
-  pub need-step : (table from : ℕ) (lacks : List ℕ) (slot need part : ℕ) → need ≡ needOf entry slot table from lacks → part ≡ entry table from (getD lacks slot 0)
-      → need + part ≡ needOf entry (slot + 1) table from lacks
-  unfolding needOf
-  need-step table from lacks slot need part n p =
-      let f : ℕ → ℕ = λ s. entry table from (getD lacks s 0) in
+  pub needed-step : (table from : ℕ) (lacks wants : List ℕ) (slot need part : ℕ) → need ≡ needed entry light slot table from lacks wants
+      → part ≡ max (entry table from (getD lacks slot 0)) (light table from (getD wants slot 0)) → need + part ≡ needed entry light (slot + 1) table from lacks wants
+  unfolding needed slotNeeds
+  needed-step table from lacks wants slot need part n p =
+      let f : ℕ → ℕ = slotNeeds entry light table from lacks wants in
       ap (λ (x : ℕ). x + part) n ∙ ap (λ (x : ℕ). sumBelow slot f + x) p ∙ sym (sum-more f slot)
 
   -- whether a slot stays
-  module _ (table from : ℕ) (lacks : List ℕ) (weight most need spare domain slot : ℕ) where
-    pub slot-lost : has domain slot ≡ false → false ≡ slotKept entry table from lacks weight most need spare domain slot
-    unfolding slotKept
+  module _ (table from : ℕ) (lacks wants : List ℕ) (weight most need spare domain slot : ℕ) where
+    pub slot-lost : has domain slot ≡ false → false ≡ slotStays entry light table from lacks wants weight most need spare domain slot
+    unfolding slotStays
     slot-lost t = rw t
 
-    pub slot-asked : (less rest whole : ℕ) → has domain slot ≡ true → less ≡ getD lacks slot 0 - most → rest ≡ entry table from less → whole ≡ entry table from (getD lacks slot 0)
-        → leb (weight + rest + need) (spare + whole) ≡ slotKept entry table from lacks weight most need spare domain slot
-    unfolding slotKept
-    slot-asked less rest whole t l r w = rw (t, w, r, l)
+    pub slot-asked : (less fewer rest whole : ℕ) → has domain slot ≡ true → less ≡ getD lacks slot 0 - most → fewer ≡ getD wants slot 0 - 1
+        → rest ≡ max (entry table from less) (light table from fewer) → whole ≡ max (entry table from (getD lacks slot 0)) (light table from (getD wants slot 0))
+        → leb (weight + rest + need) (spare + whole) ≡ slotStays entry light table from lacks wants weight most need spare domain slot
+    unfolding slotStays slotNeeds
+    slot-asked less fewer rest whole t l f r w = rw (t, w, r, l, f)
 
   -- what is left of a domain
-  module _ (slots table from : ℕ) (lacks : List ℕ) (weight most need spare domain : ℕ) where
-    pub left-all : weight + need ≤ spare → domain ≡ leftOf entry slots table from lacks weight most need spare domain
+  module _ (slots table from : ℕ) (lacks wants : List ℕ) (weight most need spare domain : ℕ) where
+    pub left-all : weight + need ≤ spare → domain ≡ leftOf entry light slots table from lacks wants weight most need spare domain
     unfolding leftOf
     left-all h = rw (le-leb _ _ h)
 
-    pub left-none : spare < weight + need → spare < need → 0 ≡ leftOf entry slots table from lacks weight most need spare domain
+    pub left-none : spare < weight + need → spare < need → 0 ≡ leftOf entry light slots table from lacks wants weight most need spare domain
     unfolding leftOf
     left-none h n = rw (lt-leb _ _ h, lt-ltb _ _ n)
 
     pub left-some : spare < weight + need → need ≤ spare
-        → setOf slots (slotKept entry table from lacks weight most need spare domain) ≡ leftOf entry slots table from lacks weight most need spare domain
+        → setOf slots (slotStays entry light table from lacks wants weight most need spare domain) ≡ leftOf entry light slots table from lacks wants weight most need spare domain
     unfolding leftOf
     left-some h n = rw (lt-leb _ _ h, le-ltb _ _ n)
 
   -- one choice's domain
-  pub next-left : (free : Bool) (slots table from : ℕ) (lacks : List ℕ) (need spare heavy most domain weight wide result : ℕ) → free ≡ true
-      → weight ≡ heavy → wide ≡ most → result ≡ leftOf entry slots table from lacks weight wide need spare domain
-      → result ≡ cond free (leftOf entry slots table from lacks heavy most need spare domain) domain
-  next-left free slots table from lacks need spare heavy most domain weight wide result t w m r =
-      r ∙ ap (λ (x : ℕ). leftOf entry slots table from lacks x wide need spare domain) w
-      ∙ ap (λ (x : ℕ). leftOf entry slots table from lacks heavy x need spare domain) m
-      ∙ sym (ap (λ (b : Bool). cond b (leftOf entry slots table from lacks heavy most need spare domain) domain) t)
+  pub next-left : (free : Bool) (slots table from : ℕ) (lacks wants : List ℕ) (need spare heavy most domain weight wide result : ℕ) → free ≡ true
+      → weight ≡ heavy → wide ≡ most → result ≡ leftOf entry light slots table from lacks wants weight wide need spare domain
+      → result ≡ cond free (leftOf entry light slots table from lacks wants heavy most need spare domain) domain
+  next-left free slots table from lacks wants need spare heavy most domain weight wide result t w m r =
+      r ∙ ap (λ (x : ℕ). leftOf entry light slots table from lacks wants x wide need spare domain) w
+      ∙ ap (λ (x : ℕ). leftOf entry light slots table from lacks wants heavy x need spare domain) m
+      ∙ sym (ap (λ (b : Bool). cond b (leftOf entry light slots table from lacks wants heavy most need spare domain) domain) t)
 
-module _ (entry : ℕ → ℕ → ℕ → ℕ) (weight : ℕ → ℕ → ℕ) where
+module _ (entry light : ℕ → ℕ → ℕ → ℕ) (weight : ℕ → ℕ → ℕ) where
   -- the domains by one table's rule
-  module _ (counts : Counts) (maxs : List ℕ) (table free from : ℕ) (lacks : List ℕ) where
+  module _ (counts : Counts) (maxs : List ℕ) (table free from : ℕ) (lacks wants : List ℕ) where
     -- a choice that isn't free keeps its domain
-    rule-settled : (choice domain : ℕ) → has free choice ≡ false → tableRule entry weight counts maxs table free from lacks choice domain ≡ domain
+    rule-settled : (choice domain : ℕ) → has free choice ≡ false → tableRule entry light weight counts maxs table free from lacks wants choice domain ≡ domain
     unfolding tableRule
     rule-settled choice domain t = rw t
 
     -- up to the first free choice they are as they were, then one choice more
-    pub once-start : (domains : List ℕ) → from ≡ firstIn (counts .choices) free → domains ≡ eachBelow from (tableRule entry weight counts maxs table free from lacks) domains
+    pub once-start : (domains : List ℕ) → from ≡ firstIn (counts .choices) free → domains ≡ eachBelow from (tableRule entry light weight counts maxs table free from lacks wants) domains
     once-start domains e =
         sym
-        (each-same from (tableRule entry weight counts maxs table free from lacks) domains λ choice h.
+        (each-same from (tableRule entry light weight counts maxs table free from lacks wants) domains λ choice h.
         rule-settled choice (getD domains choice 0) (first-before (counts .choices) free from e choice h))
 
-    pub once-step : (before domains : List ℕ) (n need spare result : ℕ) (inside : Bool) → domains ≡ eachBelow n (tableRule entry weight counts maxs table free from lacks) before
-        → n < length before → need ≡ needOf entry (counts .slots) table from lacks → spare ≡ spareOf (counts .choices) weight table free
+    pub once-step : (before domains : List ℕ) (n need spare result : ℕ) (inside : Bool) → domains ≡ eachBelow n (tableRule entry light weight counts maxs table free from lacks wants) before
+        → n < length before → need ≡ needed entry light (counts .slots) table from lacks wants → spare ≡ spareOf (counts .choices) weight table free
         → inside ≡ has free n
-        → result ≡ cond inside (leftOf entry (counts .slots) table from lacks (weight table n) (getD maxs n 0) need spare (getD domains n 0)) (getD domains n 0)
-        → set domains n result ≡ eachBelow (n + 1) (tableRule entry weight counts maxs table free from lacks) before
+        → result ≡ cond inside (leftOf entry light (counts .slots) table from lacks wants (weight table n) (getD maxs n 0) need spare (getD domains n 0)) (getD domains n 0)
+        → set domains n result ≡ eachBelow (n + 1) (tableRule entry light weight counts maxs table free from lacks wants) before
     unfolding tableRule eachBelow
     once-step before domains n need spare result inside d h q s i r =
-        let rule : ℕ → ℕ → ℕ = tableRule entry weight counts maxs table free from lacks in
+        let rule : ℕ → ℕ → ℕ = tableRule entry light weight counts maxs table free from lacks wants in
         let at : getD domains n 0 ≡ getD before n 0 =
         ap (λ (x : List ℕ). getD x n 0) d ∙ each-at n rule before n (omega arith)
         ∙ ap (λ (b : Bool). cond b (rule n (getD before n 0)) (getD before n 0)) (le-ltb n n (omega arith)) in
@@ -160,78 +161,67 @@ module _ (entry : ℕ → ℕ → ℕ → ℕ) (weight : ℕ → ℕ → ℕ) wh
         let m : ℕ = getD maxs n 0 in
         let e : result ≡ rule n (getD before n 0) =
         r
-        ∙ ap (λ (x : ℕ). cond inside (leftOf entry (counts .slots) table from lacks w m need spare x) x) at
-        ∙ ap (λ (b : Bool). cond b (leftOf entry (counts .slots) table from lacks w m need spare (getD before n 0)) (getD before n 0)) i
-        ∙ ap (λ (x : ℕ). cond (has free n) (leftOf entry (counts .slots) table from lacks w m x spare (getD before n 0)) (getD before n 0)) q
-        ∙ ap (λ (x : ℕ). cond (has free n) (leftOf entry (counts .slots) table from lacks w m (needOf entry (counts .slots) table from lacks) x (getD before n 0)) (getD before n 0)) s in
+        ∙ ap (λ (x : ℕ). cond inside (leftOf entry light (counts .slots) table from lacks wants w m need spare x) x) at
+        ∙ ap (λ (b : Bool). cond b (leftOf entry light (counts .slots) table from lacks wants w m need spare (getD before n 0)) (getD before n 0)) i
+        ∙ ap (λ (x : ℕ). cond (has free n) (leftOf entry light (counts .slots) table from lacks wants w m x spare (getD before n 0)) (getD before n 0)) q
+        ∙ ap (λ (x : ℕ). cond (has free n) (leftOf entry light (counts .slots) table from lacks wants w m (needed entry light (counts .slots) table from lacks wants) x (getD before n 0)) (getD before n 0)) s in
         rw add-one (ap (λ (x : List ℕ). set x n result) d ∙ ap (λ (x : ℕ). set (eachBelow n rule before) n x) e)
 
     -- a table that can do without the heaviest choice leaves every domain
     rule-keeps : (choice domain : ℕ) → choice < counts .choices
-        → needOf entry (counts .slots) table from lacks + heaviestOf (counts .choices) weight table free ≤ spareOf (counts .choices) weight table free
-        → tableRule entry weight counts maxs table free from lacks choice domain ≡ domain
+        → needed entry light (counts .slots) table from lacks wants + heaviestOf (counts .choices) weight table free ≤ spareOf (counts .choices) weight table free
+        → tableRule entry light weight counts maxs table free from lacks wants choice domain ≡ domain
     unfolding tableRule
     rule-keeps choice domain under h = go (has free choice) refl
       where
         go : (b : Bool) → has free choice ≡ b
             → cond b
-            (leftOf entry (counts .slots) table from lacks (weight table choice) (getD maxs choice 0)
-            (needOf entry (counts .slots) table from lacks) (spareOf (counts .choices) weight table free) domain)
+            (leftOf entry light (counts .slots) table from lacks wants (weight table choice) (getD maxs choice 0)
+            (needed entry light (counts .slots) table from lacks wants) (spareOf (counts .choices) weight table free) domain)
             domain
             ≡ domain
         go true t =
             let l : weight table choice ≤ heaviestOf (counts .choices) weight table free = heaviest-most weight table free (counts .choices) choice under t in
             sym
-            (left-all entry (counts .slots) table from lacks (weight table choice) (getD maxs choice 0)
-            (needOf entry (counts .slots) table from lacks) (spareOf (counts .choices) weight table free) domain (omega (arith, h, l)))
+            (left-all entry light (counts .slots) table from lacks wants (weight table choice) (getD maxs choice 0)
+            (needed entry light (counts .slots) table from lacks wants) (spareOf (counts .choices) weight table free) domain (omega (arith, h, l)))
         go false t = refl
 
-    pub once-spared : (domains : List ℕ) (need spare heaviest : ℕ) → need ≡ needOf entry (counts .slots) table from lacks
+    pub once-spared : (domains : List ℕ) (need spare heaviest : ℕ) → need ≡ needed entry light (counts .slots) table from lacks wants
         → spare ≡ spareOf (counts .choices) weight table free → heaviest ≡ heaviestOf (counts .choices) weight table free → need + heaviest ≤ spare
-        → domains ≡ eachBelow (counts .choices) (tableRule entry weight counts maxs table free from lacks) domains
+        → domains ≡ eachBelow (counts .choices) (tableRule entry light weight counts maxs table free from lacks wants) domains
     once-spared domains need spare heaviest n s l h =
-        sym (each-same (counts .choices) (tableRule entry weight counts maxs table free from lacks) domains λ i under. rule-keeps i (getD domains i 0) under (omega (arith, n, s, l, h)))
+        sym (each-same (counts .choices) (tableRule entry light weight counts maxs table free from lacks wants) domains λ i under. rule-keeps i (getD domains i 0) under (omega (arith, n, s, l, h)))
 
   -- the tables, one more
-  pub each-step : (counts : Counts) (maxs : List ℕ) (free from : ℕ) (lacks before domains after : List ℕ) (table : ℕ) → domains ≡ tablesBelow entry weight counts maxs free from lacks table before
-      → after ≡ eachBelow (counts .choices) (tableRule entry weight counts maxs table free from lacks) domains
-      → after ≡ tablesBelow entry weight counts maxs free from lacks (table + 1) before
+  pub each-step : (counts : Counts) (maxs : List ℕ) (free from : ℕ) (lacks wants before domains after : List ℕ) (table : ℕ) → domains ≡ tablesBelow entry light weight counts maxs free from lacks wants table before
+      → after ≡ eachBelow (counts .choices) (tableRule entry light weight counts maxs table free from lacks wants) domains
+      → after ≡ tablesBelow entry light weight counts maxs free from lacks wants (table + 1) before
   unfolding tablesBelow
-  each-step counts maxs free from lacks before domains after table d a =
-      rw add-one (a ∙ ap (λ (x : List ℕ). eachBelow (counts .choices) (tableRule entry weight counts maxs table free from lacks) x) d)
-
-  -- the four tables by the figures
-  pub four-are : (counts : Counts) (maxs domains : List ℕ) (free from : ℕ) (lacks after : List ℕ) → free ≡ freeOf (counts .choices) domains
-      → from ≡ firstIn (counts .choices) free
-      → lacks ≡ lacksOf (counts .slots) (counts .choices) (counts .choosers) maxs (freeOf (counts .choices) domains) domains
-      → after ≡ tablesBelow entry weight counts maxs free from lacks 4 domains → after ≡ fourTables entry weight counts maxs domains
-  unfolding fourTables
-  four-are counts maxs domains free from lacks after f g l a =
-      let free' : ℕ = freeOf (counts .choices) domains in
-      let from' : from ≡ firstIn (counts .choices) free' = g ∙ ap (λ (x : ℕ). firstIn (counts .choices) x) f in
-      a ∙ ap (λ (x : ℕ). tablesBelow entry weight counts maxs x from lacks 4 domains) f
-      ∙ ap (λ (x : ℕ). tablesBelow entry weight counts maxs free' x lacks 4 domains) from'
-      ∙ ap (λ (x : List ℕ). tablesBelow entry weight counts maxs free' (firstIn (counts .choices) free') x 4 domains) l
+  each-step counts maxs free from lacks wants before domains after table d a =
+      rw add-one (a ∙ ap (λ (x : List ℕ). eachBelow (counts .choices) (tableRule entry light weight counts maxs table free from lacks wants) x) d)
 
   -- the call
-  module _ (counts : Counts) (maxs domains : List ℕ) where
-    pub rule-many-choices : 64 < counts .choices → domains ≡ tablesRule entry weight counts maxs domains
+  module _ (counts : Counts) (maxs : List ℕ) (free : ℕ) (lacks wants domains : List ℕ) where
+    pub rule-many-choices : 64 < counts .choices → domains ≡ tablesRule entry light weight counts maxs free lacks wants domains
     unfolding tablesRule tablesFit
     rule-many-choices h = rw (lt-leb _ _ h)
 
-    pub rule-many-choosers : counts .choices ≤ 64 → 200 < counts .choosers → domains ≡ tablesRule entry weight counts maxs domains
+    pub rule-many-choosers : counts .choices ≤ 64 → 200 < counts .choosers → domains ≡ tablesRule entry light weight counts maxs free lacks wants domains
     unfolding tablesRule tablesFit
     rule-many-choosers c h = rw (le-leb _ _ c, lt-leb _ _ h)
 
-    pub rule-other-length : counts .choices ≤ 64 → counts .choosers ≤ 200 → (length maxs ≡ counts .choices → ⊥) → domains ≡ tablesRule entry weight counts maxs domains
+    pub rule-other-length : counts .choices ≤ 64 → counts .choosers ≤ 200 → (length maxs ≡ counts .choices → ⊥) → domains ≡ tablesRule entry light weight counts maxs free lacks wants domains
     unfolding tablesRule tablesFit
     rule-other-length c h n = rw (le-leb _ _ c, le-leb _ _ h, ne-eqb _ _ n)
 
-    pub rule-many-slots : counts .choices ≤ 64 → counts .choosers ≤ 200 → length maxs ≡ counts .choices → 24 < counts .slots → domains ≡ tablesRule entry weight counts maxs domains
+    pub rule-many-slots : counts .choices ≤ 64 → counts .choosers ≤ 200 → length maxs ≡ counts .choices → 24 < counts .slots → domains ≡ tablesRule entry light weight counts maxs free lacks wants domains
     unfolding tablesRule tablesFit
     rule-many-slots c h n s = rw (le-leb _ _ c, le-leb _ _ h, eq-eqb _ _ n, lt-leb _ _ s)
 
-    pub rule-fits : (after : List ℕ) → counts .choices ≤ 64 → counts .choosers ≤ 200 → length maxs ≡ counts .choices → counts .slots ≤ 24
-        → after ≡ fourTables entry weight counts maxs domains → after ≡ tablesRule entry weight counts maxs domains
+    pub rule-fits : (from : ℕ) (after : List ℕ) → counts .choices ≤ 64 → counts .choosers ≤ 200 → length maxs ≡ counts .choices → counts .slots ≤ 24
+        → from ≡ firstIn (counts .choices) free → after ≡ tablesBelow entry light weight counts maxs free from lacks wants 4 domains
+        → after ≡ tablesRule entry light weight counts maxs free lacks wants domains
     unfolding tablesRule tablesFit
-    rule-fits after c h n s e = rw (le-leb _ _ c, le-leb _ _ h, eq-eqb _ _ n, le-leb _ _ s) e
+    rule-fits from after c h n s f e =
+        rw (le-leb _ _ c, le-leb _ _ h, eq-eqb _ _ n, le-leb _ _ s) (e ∙ ap (λ (x : ℕ). tablesBelow entry light weight counts maxs free x lacks wants 4 domains) f)

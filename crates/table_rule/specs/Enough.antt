@@ -4,11 +4,11 @@ use mathlib.Core.List.{List}
 use Prim.Native.Nat.{ℕ, _+_, _-_}
 use lib.Dec.{ltb, leb}
 use lib.ListN.{getD, replicate}
+use Rattle.lists.specs.Below.{sumBelow}
 use Rattle.constraint.specs.declared.check.Counts.{Counts}
-use Rattle.choice_sets.specs.Sets.{setOf}
+use Rattle.choice_sets.specs.Sets.{has, setOf}
 use Rattle.weight_tables.specs.Weights.{sumFrom}
 use Rattle.weight_tables.specs.Tables.{written}
-use Rattle.table_rule.specs.Rule.{needOf, slotKept}
 
 -- what a slot lacks of the choosers by its fill
 unfoldable pub lackAt : ℕ → List ℕ → ℕ → ℕ
@@ -18,9 +18,19 @@ lackAt choosers fills slot = choosers - getD fills slot 0
 unfoldable pub lacksAt : ℕ → ℕ → List ℕ → List ℕ
 lacksAt choosers slots fills = written slots 0 (lackAt choosers fills) (replicate 24 0)
 
+-- what the slots' lacks weigh together
+unfoldable pub needOf : (ℕ → ℕ → ℕ → ℕ) → ℕ → ℕ → ℕ → List ℕ → ℕ
+needOf entry slots table from lacks = sumBelow slots λ slot. entry table from (getD lacks slot 0)
+
 -- what the choices from one on weigh together in table 1
 unfoldable pub weightAfter : (ℕ → ℕ → ℕ) → ℕ → ℕ → ℕ
 weightAfter weight choices from = sumFrom from (choices - from) (weight 1)
+
+-- a slot stays if the choice in it, with the lightest set that fills the rest of its lack, leaves enough for the other slots
+unfoldable pub slotKept : (ℕ → ℕ → ℕ → ℕ) → ℕ → ℕ → List ℕ → ℕ → ℕ → ℕ → ℕ → ℕ → ℕ → Bool
+slotKept entry table from lacks weight most need spare domain slot =
+    has domain slot
+    && leb (weight + entry table from (getD lacks slot 0 - most) + need) (spare + entry table from (getD lacks slot 0))
 
 -- all places if the choices after are enough without this one, else the slots in which this one leaves enough for the others
 unfoldable pub enoughWith : (ℕ → ℕ → ℕ → ℕ) → ℕ → ℕ → List ℕ → ℕ → ℕ → ℕ → ℕ

@@ -6,6 +6,7 @@ use lib.Dec.{eqb, ltb, leb}
 use lib.ListN.{length, getD, replicate}
 use Rattle.lists.specs.Below.{sumBelow}
 use Rattle.constraint.specs.declared.check.Counts.{Counts}
+use Rattle.plan_rows.specs.Plan.{standsIn}
 use Rattle.choice_sets.specs.Sets.{has, setOf}
 use Rattle.weight_tables.specs.Tables.{written}
 use Rattle.place_sets.specs.Domains.{settled}
@@ -26,6 +27,10 @@ settledIn free domains slot choice = not (has free choice) && has (getD domains 
 -- the maximums that the settled choices bring to a slot
 unfoldable pub settledSum : ℕ → List ℕ → ℕ → List ℕ → ℕ → ℕ
 settledSum choices maxs free domains slot = sumBelow choices λ choice. cond (settledIn free domains slot choice) (getD maxs choice 0) 0
+
+-- how many free choices a plan puts in a slot
+unfoldable pub freeIn : ℕ → ℕ → List ℕ → ℕ → ℕ
+freeIn choices free plan slot = sumBelow choices λ choice. cond (has free choice && standsIn plan choice slot) 1 0
 
 -- what a slot lacks
 unfoldable pub lackOf : ℕ → ℕ → List ℕ → ℕ → List ℕ → ℕ → ℕ

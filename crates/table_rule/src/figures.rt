@@ -1,5 +1,4 @@
 // Which choices are free, the first of them, and what each slot still lacks.
-use choice_sets::set::member;
 use choice_sets::set::with;
 use constraint::check::Counts;
 use place_sets::places::is_settled;
@@ -27,7 +26,7 @@ pub(crate) fn with_if(set: u64, choice: usize, inside: bool) -> u64
 }
 
 // The choices that have two places or more.
-pub(crate) fn free_choices(choices: usize, domains: &[u64; 64]) -> u64
+fn free_choices(choices: usize, domains: &[u64; 64]) -> u64
     requires { ⌜ choices ≤ 64 ⌝ }
     ensures { λ r. ⌜ r ≡ freeOf choices (now (domains .entry)) ⌝ }
 {
@@ -45,18 +44,18 @@ pub(crate) fn free_choices(choices: usize, domains: &[u64; 64]) -> u64
 pub fn first_in(choices: usize, set: u64) -> usize
     ensures { λ r. ⌜ (r ≡ firstIn choices set) × (r ≤ choices) ⌝ }
 {
-    let mut choice = 0;
-    while choice < choices {
-        if member(set, choice) {
-            return choice;
-        }
-        choice += 1;
+    let first = lowest_place(set);
+    if 64 <= first {
+        return choices;
     }
-    choices
+    if choices <= first {
+        return choices;
+    }
+    first
 }
 
 // A lack for each of the slots that a day may have, all 0.
-pub(crate) fn no_lacks() -> [usize; 24]
+pub fn no_lacks() -> [usize; 24]
     ensures { λ r. ⌜ r ≡ replicate 24 0 ⌝ }
 {
     [0usize; 24]
@@ -90,7 +89,7 @@ fn bring(slots: usize, most: u16, domain: u64, lacks: &mut [usize; 24])
 }
 
 // What each slot lacks: all choosers, less what each settled choice brings to one slot.
-pub(crate) fn each_lack(
+fn each_lack(
     slots: usize,
     choices: usize,
     choosers: usize,

@@ -1,10 +1,9 @@
 // The rule of one table, and the four tables one after the other.
-use super::figures::each_lack;
 use super::figures::first_in;
-use super::figures::free_choices;
 use super::figures::with_if;
 use choice_sets::set::member;
 use constraint::check::Counts;
+use lightest_weights::entry::lightest_at;
 use weight_tables::entry::least_at;
 use weight_tables::entry::less;
 use weight_tables::weight::weight_at;
@@ -16,45 +15,16 @@ ghost use lib.Dec.{leb};
 ghost use lib.ListN.{length, getD};
 ghost use Rattle.choice_sets.specs.Sets.{setOf};
 ghost use Rattle.weight_tables.specs.Tables.{entryAt, weightAt};
+ghost use Rattle.lightest_weights.specs.Lightest.{lightestAt};
 ghost use Rattle.place_sets.specs.Domains.{eachBelow};
 ghost use Rattle.table_rule.specs.Figures.{firstIn};
-ghost use Rattle.table_rule.specs.Rule.{needOf, spareOf, slotKept, leftOf, tableRule, tablesBelow, fourTables, tablesRule};
+ghost use Rattle.table_rule.specs.Rule.{needed, spareOf, slotStays, leftOf, tableRule, tablesBelow, tablesRule};
 ghost use Rattle.table_rule.specs.steps.Heaviest.{heaviestOf};
 
 // What the free choices weigh together, and the heaviest of them.
 struct Weighed {
     spare: usize,
     heaviest: usize,
-}
-
-// What the slots' lacks weigh together.
-fn need_of(
-    slots: usize,
-    table: usize,
-    from: usize,
-    lacks: &[usize; 24],
-    tables: &[u16; 52516],
-) -> usize
-    requires { ⌜ slots ≤ 24 ⌝ }
-    ensures { λ r. ⌜ (r ≡ needOf (entryAt (now (tables .entry))) slots table from (now (lacks .entry))) × (r ≤ 1572840) ⌝ }
-{
-    let mut need = 0;
-    let mut slot = 0;
-    while slot < slots {
-        need += least_at(tables, table, from, lacks[slot]);
-        slot += 1;
-    }
-    need
-}
-
-// A free choice's weight, 0 of another.
-fn free_weight(free: bool, tables: &[u16; 52516], table: usize, choice: usize) -> usize
-    ensures { λ r. ⌜ (r ≡ cond free (weightAt (now (tables .entry)) table choice) 0) × (r ≤ 65535) ⌝ }
-{
-    if !free {
-        return 0;
-    }
-    weight_at(tables, table, choice)
 }
 
 // The larger of two weights.
@@ -67,10 +37,51 @@ fn larger_of(one: usize, other: usize) -> usize
     one
 }
 
+// What the free choices that stand in a slot weigh at the least: they fill a lack, and are as many as it wants.
+fn slot_needs(tables: &[u16; 69416], table: usize, from: usize, lack: usize, want: usize) -> usize
+    ensures { λ r. ⌜ (r ≡ max (entryAt (now (tables .entry)) table from lack) (lightestAt (now (tables .entry)) table from want)) × (r ≤ 65535) ⌝ }
+{
+    larger_of(
+        least_at(tables, table, from, lack),
+        lightest_at(tables, table, from, want),
+    )
+}
+
+// What the slots need together.
+fn need_of(
+    slots: usize,
+    table: usize,
+    from: usize,
+    lacks: &[usize; 24],
+    wants: &[usize; 24],
+    tables: &[u16; 69416],
+) -> usize
+    requires { ⌜ slots ≤ 24 ⌝ }
+    ensures { λ r. ⌜ (r ≡ needed (entryAt (now (tables .entry))) (lightestAt (now (tables .entry))) slots table from (now (lacks .entry)) (now (wants .entry))) × (r ≤ 1572840) ⌝ }
+{
+    let mut need = 0;
+    let mut slot = 0;
+    while slot < slots {
+        need += slot_needs(tables, table, from, lacks[slot], wants[slot]);
+        slot += 1;
+    }
+    need
+}
+
+// A free choice's weight, 0 of another.
+fn free_weight(free: bool, tables: &[u16; 69416], table: usize, choice: usize) -> usize
+    ensures { λ r. ⌜ (r ≡ cond free (weightAt (now (tables .entry)) table choice) 0) × (r ≤ 65535) ⌝ }
+{
+    if !free {
+        return 0;
+    }
+    weight_at(tables, table, choice)
+}
+
 // What the free choices weigh together and the heaviest of them, from the first of them on.
 fn weigh_free(
     choices: usize,
-    tables: &[u16; 52516],
+    tables: &[u16; 69416],
     table: usize,
     free: u64,
     from: usize,
@@ -91,12 +102,13 @@ fn weigh_free(
     Weighed { spare, heaviest }
 }
 
-// Whether a slot of the domain stays: the choice in it, with the lightest set that fills the rest of its lack, leaves enough for the other slots.
-fn slot_kept(
+// Whether a slot of the domain stays: the choice in it, with what the rest of its lack and of its wanted choices weigh at the least, leaves enough for the other slots.
+fn slot_stays(
     table: usize,
     from: usize,
     lacks: &[usize; 24],
-    tables: &[u16; 52516],
+    wants: &[usize; 24],
+    tables: &[u16; 69416],
     weight: usize,
     most: usize,
     need: usize,
@@ -105,14 +117,15 @@ fn slot_kept(
     slot: usize,
 ) -> bool
     requires { ⌜ (slot < 24) × ((weight ≤ 65535) × ((need ≤ 1572840) × (spare ≤ 4194240))) ⌝ }
-    ensures { λ r. ⌜ r ≡ slotKept (entryAt (now (tables .entry))) table from (now (lacks .entry)) weight most need spare domain slot ⌝ }
+    ensures { λ r. ⌜ r ≡ slotStays (entryAt (now (tables .entry))) (lightestAt (now (tables .entry))) table from (now (lacks .entry)) (now (wants .entry)) weight most need spare domain slot ⌝ }
 {
     if !member(domain, slot) {
         return false;
     }
     let lack = lacks[slot];
-    let rest = least_at(tables, table, from, less(lack, most));
-    let whole = least_at(tables, table, from, lack);
+    let want = wants[slot];
+    let rest = slot_needs(tables, table, from, less(lack, most), less(want, 1));
+    let whole = slot_needs(tables, table, from, lack, want);
     weight + rest + need <= spare + whole
 }
 
@@ -122,7 +135,8 @@ fn kept_slots(
     table: usize,
     from: usize,
     lacks: &[usize; 24],
-    tables: &[u16; 52516],
+    wants: &[usize; 24],
+    tables: &[u16; 69416],
     weight: usize,
     most: usize,
     need: usize,
@@ -130,15 +144,16 @@ fn kept_slots(
     domain: u64,
 ) -> u64
     requires { ⌜ (slots ≤ 24) × ((weight ≤ 65535) × ((need ≤ 1572840) × (spare ≤ 4194240))) ⌝ }
-    ensures { λ r. ⌜ r ≡ setOf slots (slotKept (entryAt (now (tables .entry))) table from (now (lacks .entry)) weight most need spare domain) ⌝ }
+    ensures { λ r. ⌜ r ≡ setOf slots (slotStays (entryAt (now (tables .entry))) (lightestAt (now (tables .entry))) table from (now (lacks .entry)) (now (wants .entry)) weight most need spare domain) ⌝ }
 {
     let mut kept = 0;
     let mut slot = 0;
     while slot < slots {
-        let stays = slot_kept(
+        let stays = slot_stays(
             table,
             from,
             lacks,
+            wants,
             tables,
             weight,
             most,
@@ -159,7 +174,8 @@ fn left_of(
     table: usize,
     from: usize,
     lacks: &[usize; 24],
-    tables: &[u16; 52516],
+    wants: &[usize; 24],
+    tables: &[u16; 69416],
     weight: usize,
     most: usize,
     need: usize,
@@ -167,7 +183,7 @@ fn left_of(
     domain: u64,
 ) -> u64
     requires { ⌜ (slots ≤ 24) × ((weight ≤ 65535) × ((need ≤ 1572840) × (spare ≤ 4194240))) ⌝ }
-    ensures { λ r. ⌜ r ≡ leftOf (entryAt (now (tables .entry))) slots table from (now (lacks .entry)) weight most need spare domain ⌝ }
+    ensures { λ r. ⌜ r ≡ leftOf (entryAt (now (tables .entry))) (lightestAt (now (tables .entry))) slots table from (now (lacks .entry)) (now (wants .entry)) weight most need spare domain ⌝ }
 {
     if weight + need <= spare {
         return domain;
@@ -180,6 +196,7 @@ fn left_of(
         table,
         from,
         lacks,
+        wants,
         tables,
         weight,
         most,
@@ -196,7 +213,8 @@ fn next_domain(
     table: usize,
     from: usize,
     lacks: &[usize; 24],
-    tables: &[u16; 52516],
+    wants: &[usize; 24],
+    tables: &[u16; 69416],
     need: usize,
     spare: usize,
     choice: usize,
@@ -204,7 +222,7 @@ fn next_domain(
     domain: u64,
 ) -> u64
     requires { ⌜ (slots ≤ 24) × ((need ≤ 1572840) × (spare ≤ 4194240)) ⌝ }
-    ensures { λ r. ⌜ r ≡ cond free (leftOf (entryAt (now (tables .entry))) slots table from (now (lacks .entry)) (weightAt (now (tables .entry)) table choice) most need spare domain) domain ⌝ }
+    ensures { λ r. ⌜ r ≡ cond free (leftOf (entryAt (now (tables .entry))) (lightestAt (now (tables .entry))) slots table from (now (lacks .entry)) (now (wants .entry)) (weightAt (now (tables .entry)) table choice) most need spare domain) domain ⌝ }
 {
     if !free {
         return domain;
@@ -215,6 +233,7 @@ fn next_domain(
         table,
         from,
         lacks,
+        wants,
         tables,
         weight,
         wide_word(most),
@@ -228,17 +247,18 @@ fn next_domain(
 fn narrow_once(
     counts: Counts,
     maxs: &[u16],
-    tables: &[u16; 52516],
+    tables: &[u16; 69416],
     table: usize,
     free: u64,
     from: usize,
     lacks: &[usize; 24],
+    wants: &[usize; 24],
     domains: &mut [u64; 64],
 )
     requires { ⌜ ((counts .choices ≤ 64) × (counts .slots ≤ 24)) × ((length (now maxs) ≡ counts .choices) × ((length (now domains) ≡ 64) × (from ≡ firstIn (counts .choices) free))) ⌝ }
-    ensures { λ r. ⌜ now (domains .exit) ≡ eachBelow (counts .choices) (tableRule (entryAt (now (tables .entry))) (weightAt (now (tables .entry))) counts (now (maxs .entry)) table free from (now (lacks .entry))) (now (domains .entry)) ⌝ }
+    ensures { λ r. ⌜ now (domains .exit) ≡ eachBelow (counts .choices) (tableRule (entryAt (now (tables .entry))) (lightestAt (now (tables .entry))) (weightAt (now (tables .entry))) counts (now (maxs .entry)) table free from (now (lacks .entry)) (now (wants .entry))) (now (domains .entry)) ⌝ }
 {
-    let need = need_of(counts.slots, table, from, lacks, tables);
+    let need = need_of(counts.slots, table, from, lacks, wants, tables);
     let weighed = weigh_free(counts.choices, tables, table, free, from);
     let spare = weighed.spare;
     if need + weighed.heaviest <= spare {
@@ -255,6 +275,7 @@ fn narrow_once(
             table,
             from,
             lacks,
+            wants,
             tables,
             need,
             spare,
@@ -270,18 +291,29 @@ fn narrow_once(
 fn narrow_each(
     counts: Counts,
     maxs: &[u16],
-    tables: &[u16; 52516],
+    tables: &[u16; 69416],
     free: u64,
     from: usize,
     lacks: &[usize; 24],
+    wants: &[usize; 24],
     domains: &mut [u64; 64],
 )
     requires { ⌜ ((counts .choices ≤ 64) × (counts .slots ≤ 24)) × ((length (now maxs) ≡ counts .choices) × ((length (now domains) ≡ 64) × (from ≡ firstIn (counts .choices) free))) ⌝ }
-    ensures { λ r. ⌜ now (domains .exit) ≡ tablesBelow (entryAt (now (tables .entry))) (weightAt (now (tables .entry))) counts (now (maxs .entry)) free from (now (lacks .entry)) 4 (now (domains .entry)) ⌝ }
+    ensures { λ r. ⌜ now (domains .exit) ≡ tablesBelow (entryAt (now (tables .entry))) (lightestAt (now (tables .entry))) (weightAt (now (tables .entry))) counts (now (maxs .entry)) free from (now (lacks .entry)) (now (wants .entry)) 4 (now (domains .entry)) ⌝ }
 {
     let mut table = 0;
     while table < 4 {
-        narrow_once(counts, maxs, tables, table, free, from, lacks, domains);
+        narrow_once(
+            counts,
+            maxs,
+            tables,
+            table,
+            free,
+            from,
+            lacks,
+            wants,
+            domains,
+        );
         table += 1;
     }
 }
@@ -289,26 +321,17 @@ fn narrow_each(
 // Lending the array as a slice tells how long it is.
 fn told(domains: &[u64]) {}
 
-// The four tables by the figures of the domains as they are.
-fn narrow_fitting(counts: Counts, maxs: &[u16], tables: &[u16; 52516], domains: &mut [u64; 64])
-    requires { ⌜ ((counts .choices ≤ 64) × (counts .slots ≤ 24)) × (length (now maxs) ≡ counts .choices) ⌝ }
-    ensures { λ r. ⌜ now (domains .exit) ≡ fourTables (entryAt (now (tables .entry))) (weightAt (now (tables .entry))) counts (now (maxs .entry)) (now (domains .entry)) ⌝ }
-{
-    told(domains);
-    let free = free_choices(counts.choices, domains);
-    let from = first_in(counts.choices, free);
-    let lacks = each_lack(counts.slots, counts.choices, counts.choosers, maxs, domains);
-    narrow_each(counts, maxs, tables, free, from, &lacks, domains);
-}
-
-// Narrows the domains by the weight tables; of a day that the tables don't hold they stay as they are.
+// Narrows the domains by the weight tables, given which choices are free and what each slot lacks and wants; of a day that the tables don't hold they stay as they are.
 pub fn narrow_by_tables(
     counts: Counts,
     maxs: &[u16],
-    tables: &[u16; 52516],
+    tables: &[u16; 69416],
+    free: u64,
+    lacks: &[usize; 24],
+    wants: &[usize; 24],
     domains: &mut [u64; 64],
 )
-    ensures { λ r. ⌜ now (domains .exit) ≡ tablesRule (entryAt (now (tables .entry))) (weightAt (now (tables .entry))) counts (now (maxs .entry)) (now (domains .entry)) ⌝ }
+    ensures { λ r. ⌜ now (domains .exit) ≡ tablesRule (entryAt (now (tables .entry))) (lightestAt (now (tables .entry))) (weightAt (now (tables .entry))) counts (now (maxs .entry)) free (now (lacks .entry)) (now (wants .entry)) (now (domains .entry)) ⌝ }
 {
     if 64 < counts.choices {
         return;
@@ -322,5 +345,7 @@ pub fn narrow_by_tables(
     if 24 < counts.slots {
         return;
     }
-    narrow_fitting(counts, maxs, tables, domains);
+    told(domains);
+    let from = first_in(counts.choices, free);
+    narrow_each(counts, maxs, tables, free, from, lacks, wants, domains);
 }

@@ -1,10 +1,10 @@
 -- The walk's eyes are safe: whatever they pass over, no feasible plan goes on from it.
 use mathlib.Core.Path.{_≡_, refl, sym, ap, _∙_}
-use mathlib.Core.Bool.{Bool, true, false, _&&_}
-use mathlib.Core.List.{List, [], _∷_, _++_}
+use mathlib.Core.Bool.{Bool, true, false, _&&_, not, false≢true}
+use mathlib.Core.List.{List, [], _∷_, _++_, map}
 use Prim.Native.Nat.{ℕ, _+_, _-_, _≤_, _<_, min}
 use native.Mathlib.Omega.{arith}
-use lib.ListN.{length, getD, take, drop, replicate, length-append, length-replicate}
+use lib.ListN.{length, getD, take, drop, replicate, length-append, length-map, length-replicate}
 use lib.Seq.{take-append-seam, getD-append-seam, append-snoc}
 use Rattle.lists.specs.Below.{allBelow}
 use Rattle.lists.proofs.Below.{and-both, and-left, and-right}
@@ -22,16 +22,22 @@ use Rattle.listing_nodes.proofs.WholeLaws.{Reached, reached-next, reached-empty
 use Rattle.alive_starts.specs.Alive.{Safe}
 use Rattle.alive_starts.specs.Run.{Standing, standing, goesOn, run}
 use Rattle.alive_starts.specs.Page.{endedTold, goesOnTold, turnsTold, Gives}
+use Rattle.alive_starts.proofs.AnyEyes.{not-true-false}
 use Rattle.alive_starts.proofs.PageHolds.{page-holds}
 use Rattle.alive_starts.proofs.SameEvents.{Alike, alike-next, events-same}
 use Rattle.place_sets.specs.Domains.{placeNumber, Within, firstDomain}
-use Rattle.place_sets.proofs.DomainLaws.{within-at, first-within, number-le, feasible-place}
+use Rattle.place_sets.proofs.DomainLaws.{within-at, first-within, number-le, number-slot, feasible-place}
 use Rattle.weight_tables.specs.Tables.{Filled}
+use Rattle.lightest_weights.specs.Lightest.{LightestFilled}
 use Rattle.decided_rows.specs.Leaves.{rowsLeave}
 use Rattle.decided_rows.proofs.ExactLaws.{rows-exact, front-stays, rows-split}
+use Rattle.twin_slots.specs.Twins.{twins, twinsOf, exchanged}
+use Rattle.twin_slots.proofs.TwinLaws.{twin-feasible}
+use Rattle.look_ahead.specs.Look.{nearEnd}
 use Rattle.look_ahead.proofs.LookLaws.{Looks, seen-length, seen-within, opened-within, place-back}
-use Rattle.walk_steps.specs.Sight.{Carried, carried, withRows, decidedWith, afterChoice, seen, openTo, mayTake, eyesOf, eventsFrom}
+use Rattle.walk_steps.specs.Sight.{Carried, carried, withRows, decidedWith, afterChoice, seen, openTo, mayTake, passedOver, eyesOf, eventsFrom}
 use Rattle.walk_steps.proofs.SumsLaws.{none-sums, with-length, with-sums}
+use Rattle.walk_steps.proofs.StillLaws.{twins-has, twins-slots, exchanged-later}
 use Rattle.walk_steps.proofs.WalkLaws.{node-place, decided-alike}
 
 -- every feasible plan that goes on from a start is within the domains
@@ -88,6 +94,7 @@ looks-with rows looks =
       mins-fit = looks .mins-fit;
       maxs-fit = looks .maxs-fit;
       filled = looks .filled;
+      lightest = looks .lightest;
     }
 
 module _ (day : Day) (tables : List ℕ) (looks : Looks day tables) (start rows domains : List ℕ) (size : length domains ≡ 64) where
@@ -174,6 +181,15 @@ module _ (day : Day) (tables : List ℕ) (looks : Looks day tables) where
       ∙ see-opens day tables looks start (x .rows) (x .domains) (h .size) (x .sums) (x .fills) (h .reached) (h .filled) (omega (arith, n, e')) (h .alike) (h .leaves) (place ∷ rest) e' f' in
       and-both _ _ goes b
 
+  -- at a place that is open the rows that are left judge as the day's do
+  place-alike : (start : List ℕ) (place : ℕ) (x : Carried) → Holds day start x → length start < day .counts .choices → eyesOf day tables .opens start x place ≡ true
+      → Alike day (afterChoice (withRows day (x .rows)) (length start)) (start ++ (place ∷ []))
+  unfolding eyesOf
+  place-alike start place x h l o =
+      let here = withRows day (x .rows) in
+      alike-on day here (afterChoice here (length start)) (start ++ (place ∷ [])) (alike-next day here start place (h .alike))
+      (decided-alike here tables start (x .sums) (x .fills) (seen here tables start (x .domains)) (looks .few-slots) (node-with day (x .rows) start (h .reached .node)) (omega (arith, l, looks .few-choices)) place o)
+
   next : (start : List ℕ) (place : ℕ) (x : Carried) → Holds day start x → length start < day .counts .choices → eyesOf day tables .opens start x place ≡ true
       → Holds day (start ++ (place ∷ [])) (eyesOf day tables .next start x place)
   unfolding eyesOf mayTake goesTo sumsTo
@@ -189,14 +205,54 @@ module _ (day : Day) (tables : List ℕ) (looks : Looks day tables) where
         entries = with-length day (looks .few-slots) (day .maxs) start (x .fills) (h .filled) (h .entries) place;
         size = see-length day tables looks start (x .rows) (x .domains) (h .size);
         leaves = leaves-next day start sees place (see-leaves day tables looks start (x .rows) (x .domains) (h .size) (h .alike) l (h .leaves));
-        alike =
-            alike-on day here (afterChoice here (length start)) (start ++ (place ∷ [])) (alike-next day here start place (h .alike))
-            (decided-alike here tables start (x .sums) (x .fills) sees (looks .few-slots) (node-with day (x .rows) start (h .reached .node)) (omega (arith, l, looks .few-choices)) place o);
+        alike = place-alike start place x h l o;
       }
+
+  -- it is as long
+  twin-length : (start rest : List ℕ) (place later : ℕ) (change : ℕ → ℕ) → length ((start ++ (place ∷ [])) ++ map change rest) ≡ length ((start ++ (later ∷ [])) ++ rest)
+  twin-length start rest place later change =
+      rw (length-append (start ++ (place ∷ [])) (map change rest), length-append start (place ∷ []), length-append (start ++ (later ∷ [])) rest, length-append start (later ∷ []), length-map rest change)
+
+  -- what goes on from a place is feasible with the place's twin for it, the two exchanged in all that follows
+  twin-plan : (start : List ℕ) (place later : ℕ) (x : Carried) → Holds day start x → length start < day .counts .choices → eyesOf day tables .opens start x place ≡ true
+      → eyesOf day tables .opens start x later ≡ true
+      → twins (day .counts .slots) (day .counts .choosers) start (afterChoice (withRows day (x .rows)) (length start) .rows) (x .sums) (x .fills) place later ≡ true
+      → (rest : List ℕ) → length ((start ++ (later ∷ [])) ++ rest) ≡ day .counts .choices → feasible day ((start ++ (later ∷ [])) ++ rest) ≡ true
+      → feasible day ((start ++ (place ∷ [])) ++ map (exchanged place later) rest) ≡ true
+  unfolding Alike
+  twin-plan start place later x h l o p t rest e f =
+      let after = afterChoice (withRows day (x .rows)) (length start) in
+      let same : (start ++ (later ∷ [])) ++ rest ≡ start ++ (later ∷ rest) = append-snoc start later rest in
+      let back : (start ++ (place ∷ [])) ++ map (exchanged place later) rest ≡ start ++ (place ∷ map (exchanged place later) rest) = append-snoc start place (map (exchanged place later) rest) in
+      let f' : feasible after (start ++ (later ∷ rest)) ≡ true = sym (ap (feasible after) same) ∙ sym (place-alike start later x h l p rest) ∙ f in
+      place-alike start place x h l o (map (exchanged place later) rest)
+      ∙ ap (feasible after) back
+      ∙ ap (λ (first : ℕ). feasible after (start ++ (first ∷ map (exchanged place later) rest))) (sym (exchanged-later place later))
+      ∙ twin-feasible after start (later ∷ rest) (x .sums) (x .fills) place later (looks .few-slots) (h .reached .held) (h .filled) t (sym (ap length same) ∙ e) f'
+
+  twin : (start : List ℕ) (place later : ℕ) (x : Carried) → Holds day start x → length start < day .counts .choices → eyesOf day tables .opens start x place ≡ true
+      → eyesOf day tables .opens start x later ≡ true → eyesOf day tables .twin start x place later ≡ true
+      → ((rest : List ℕ) → length ((start ++ (place ∷ [])) ++ rest) ≡ day .counts .choices → feasible day ((start ++ (place ∷ [])) ++ rest) ≡ false)
+      → (rest : List ℕ) → length ((start ++ (later ∷ [])) ++ rest) ≡ day .counts .choices → feasible day ((start ++ (later ∷ [])) ++ rest) ≡ false
+  unfolding eyesOf passedOver
+  twin start place later x h l o p t none rest e =
+      let slots = day .counts .slots in
+      let rows = afterChoice (withRows day (x .rows)) (length start) .rows in
+      let alike = twins-has (day .counts) start rows (x .sums) (x .fills) (placeNumber slots place) (placeNumber slots later) (looks .few-slots)
+      (and-right (not (nearEnd (day .counts .choices) (length start))) (has (twinsOf (day .counts) start rows (x .sums) (x .fills) (placeNumber slots place)) (placeNumber slots later)) t) in
+      let both = twins-slots slots (day .counts .choosers) start rows (x .sums) (x .fills) (placeNumber slots place) (placeNumber slots later) alike in
+      let one : placeNumber slots place ≡ place = sym (number-slot slots place (placeNumber slots place) (both .0) refl) in
+      let other : placeNumber slots later ≡ later = sym (number-slot slots later (placeNumber slots later) (both .1) refl) in
+      not-true-false (feasible day ((start ++ (later ∷ [])) ++ rest)) λ f.
+      false≢true
+      (sym
+      (none (map (exchanged place later) rest)
+      (twin-length start rest place later (exchanged place later) ∙ e))
+      ∙ twin-plan start place later x h l o p (rw (one, other) at alike) rest e f)
 
   -- the eyes are safe
   pub safe-eyes : Safe day (eyesOf day tables) (Holds day)
-  safe-eyes = record { node = λ start x h. h .reached .node; worth = worth; opens = opens; next = next }
+  safe-eyes = record { node = λ start x h. h .reached .node; worth = worth; opens = opens; next = next; twin = twin }
 
 -- at the empty start: no sums, the first domains, and rows that judge as the day's do
 pub holds-empty : (day : Day) (rows domains : List ℕ) → day .counts .slots ≤ 24 → length domains ≡ 64
@@ -216,8 +272,9 @@ holds-empty day rows domains few l firsts alike =
 -- ---- the walk from the empty start
 
 -- a day that isn't refused, with its tables, has what the look ahead asks for
-pub day-looks : (day : Day) (room : ℕ) (buffer tables : List ℕ) → Judged day room buffer → Filled (day .counts) (day .maxs) tables → Looks day tables
-day-looks day room buffer tables judged filled =
+pub day-looks : (day : Day) (room : ℕ) (buffer tables : List ℕ) → Judged day room buffer → Filled (day .counts) (day .maxs) tables → LightestFilled (day .counts .choices) tables
+    → Looks day tables
+day-looks day room buffer tables judged filled lightest =
     record {
       few-choices = judged .few-choices;
       few-slots = judged .few-slots;
@@ -225,6 +282,7 @@ day-looks day room buffer tables judged filled =
       mins-fit = judged .mins-fit;
       maxs-fit = judged .maxs-fit;
       filled = filled;
+      lightest = lightest;
     }
 
 -- other rows that every plan keeps as it keeps the day's judge as the day's do
@@ -238,7 +296,8 @@ unfolding Alike
 alike-back one other start a rest = sym (a rest)
 
 -- what the walk over such rows ends in is a page that may be given: the list ended, it goes on past the page, or turns ran out
-pub walk-holds : (day : Day) (rows : List ℕ) (first room budget : ℕ) (buffer tables domains : List ℕ) (s : Standing) → Judged day room buffer → Filled (day .counts) (day .maxs) tables → length domains ≡ 64
+pub walk-holds : (day : Day) (rows : List ℕ) (first room budget : ℕ) (buffer tables domains : List ℕ) (s : Standing) → Judged day room buffer → Filled (day .counts) (day .maxs) tables → LightestFilled (day .counts .choices) tables
+    → length domains ≡ 64
     → ((i : ℕ) → i < day .counts .choices → getD domains i 0 ≡ firstDomain (day .counts .slots) (getD (day .optional) i 0))
     → ((plan : List ℕ) → keepsRows plan rows ≡ keepsRows plan (day .rows))
     → s ≡ run first room (standing true budget 0 buffer) (eventsFrom (withRows day rows) tables (day .counts .choices) [] (replicate 24 0) (replicate 24 0) domains)
@@ -246,9 +305,9 @@ pub walk-holds : (day : Day) (rows : List ℕ) (first room budget : ℕ) (buffer
     × (s .going ≡ false → goesOn first room (s .met) ≡ false → Gives day first room budget buffer (goesOnTold (min room (s .met - first)) (s .met)) (s .buffer))
     × (s .going ≡ false → goesOn first room (s .met) ≡ true → Gives day first room budget buffer (turnsTold (min room (s .met - first)) (s .met)) (s .buffer))
 unfolding eventsFrom eyesOf
-walk-holds day rows first room budget buffer tables domains s judged filled size firsts same e =
+walk-holds day rows first room budget buffer tables domains s judged filled lightest size firsts same e =
     let alike = rows-alike day rows same in
     let x = carried (replicate 24 0) (replicate 24 0) domains rows in
-    page-holds day (eyesOf day tables) (safe-eyes day tables (day-looks day room buffer tables judged filled)) x
+    page-holds day (eyesOf day tables) (safe-eyes day tables (day-looks day room buffer tables judged filled lightest)) x
     (holds-empty day rows domains (judged .few-slots) size firsts alike) first room budget buffer s
     (e ∙ ap (run first room (standing true budget 0 buffer)) (events-same (withRows day rows) day (eyesOf day tables) refl (day .counts .choices) [] x (alike-back day (withRows day rows) [] alike)))

@@ -1,17 +1,18 @@
 -- A choice takes a place and leaves it again: a law for each way through, and what it is to the walk.
 use mathlib.Core.Path.{_≡_, refl, sym, ap, _∙_}
-use mathlib.Core.Bool.{Bool, true, false, _&&_, cond}
+use mathlib.Core.Bool.{Bool, true, false}
 use mathlib.Core.List.{List, []}
 use Prim.Native.Nat.{ℕ, _+_, _-_, _*_, _%_, _≤_, _<_, _^_}
 use native.Mathlib.Omega.{arith}
 use borrow.Author.Tests.{lt-ltb, le-ltb, le-leb, lt-leb, ltb-true, ltb-false}
 use lib.Arith.{digits-mod}
-use lib.Dec.{ltb, leb}
+use lib.Dec.{ltb}
 use lib.ListN.{length, getD, set}
 use lib.Seq.{set-out}
+use Rattle.constraint.specs.declared.check.Counts.{Counts}
 use Rattle.listing_nodes.specs.steps.Walk.{placeOf, sumsWith, sumsWithout}
-use Rattle.listing_nodes.proofs.PlaceLaws.{put-omission, put-slot, with-omission, with-slot, without-omission, without-slot}
-use Rattle.walk_steps.specs.Sight.{nextWithin}
+use Rattle.listing_nodes.proofs.PlaceLaws.{with-omission, with-slot, without-omission, without-slot}
+use Rattle.walk_steps.specs.Sight.{nextWithin, stillOpen}
 use Rattle.walk_steps.specs.Stand.{hasSum, putAt, addedAt, takenAt, Taken, LeftPlace}
 
 -- the plan
@@ -118,3 +119,12 @@ left-as {slots} {choice} {left} {mins} {maxs} {at = at} {sums₁ = sums₁} {fil
       v .filled ∙ taken-without slots at choice maxs fills₁ (k .0) h (t .maximum),
       v .goes,
     )
+
+-- and with no plan met there passes over the twins of its place
+pub passed-as : (counts : Counts) (start rows sums₁ fills₁ : List ℕ) (opened : ℕ) {choice left : ℕ} {mins maxs plan plan' sums sums' fills fills' : List ℕ} {at least most : ℕ} {unmet : Bool} {still : ℕ}
+    → Taken (counts .slots) choice left mins maxs plan plan' sums sums' fills fills' at least most → (counts .slots ≤ 24) × (0 < left) → unmet ≡ true
+    → still ≡ stillOpen counts choice start rows sums₁ fills₁ at true opened
+    → still ≡ stillOpen counts choice start rows sums₁ fills₁ (counts .slots + 1 - left) unmet opened
+passed-as counts start rows sums₁ fills₁ opened {left = left} {at = at} t k u w =
+    let e : counts .slots + 1 - left ≡ at = omega (arith, t .place, k .1) in
+    rw (e, u) w

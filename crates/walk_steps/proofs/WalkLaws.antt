@@ -1,21 +1,20 @@
 -- The walk: a law for each way through its functions.
-use mathlib.Core.Path.{_≡_, refl, sym, ap, _∙_}
-use mathlib.Core.Bool.{Bool, true, false, _&&_, _||_, cond}
+use mathlib.Core.Path.{_≡_, refl, sym, ap, fun-ext, _∙_}
+use mathlib.Core.Bool.{Bool, true, false, _&&_, _||_, not, cond}
 use mathlib.Core.Logic.{_⊎_, inl, inr}
-use mathlib.Core.List.{List, [], _∷_, _++_, append-nil, map, flatMap}
+use mathlib.Core.List.{List, [], _∷_, _++_, map}
 use Prim.Native.Nat.{ℕ, zero, suc, _+_, _-_, _≤_, _<_, _^_}
 use native.Mathlib.Nat.{pos-of-ne-zero}
 use native.Mathlib.Numerals.{add-one}
 use native.Mathlib.Omega.{arith}
 use borrow.Author.Tests.{lt-ltb, le-ltb, ltb-true}
 use lib.Arith.{lt-of-le-ne}
-use lib.Dec.{ltb, leb}
+use lib.Dec.{eqb, ltb, leb}
 use lib.ListN.{length, getD, set, take, drop, length-set}
 use native.Mathlib.Decide.{ℕ-discrete}
 use lib.Seq.{take-length, length-take-le, getD-set-same, getD-set-other, set-set, set-getD}
 use Rattle.lists.specs.Below.{allBelow}
 use Rattle.lists.proofs.Below.{all-each, and-left, and-right}
-use Rattle.lists.proofs.Keep.{flatMap-ext}
 use Rattle.choice_sets.specs.Sets.{has}
 use Rattle.scheduling.specs.Day.{Day}
 use Rattle.scheduling.specs.Plan.{slotOf}
@@ -24,7 +23,7 @@ use Rattle.scheduling.specs.Feasible.{omissionAllowed, placeAllowed, placesAllo
 use Rattle.scheduling.specs.steps.Sums.{Sums}
 use Rattle.listing_nodes.specs.Placements.{places, isNode}
 use Rattle.listing_nodes.specs.steps.Walk.{placesFrom, placeOf, placeFits, sumsWith, sumsWithout, goesTo, sumsTo, ifFeasible, putPlans}
-use Rattle.listing_nodes.specs.steps.Runs.{Walks, Shaped, Added}
+use Rattle.listing_nodes.specs.steps.Runs.{Added}
 use Rattle.listing_nodes.proofs.PlaceLaws.{places-start, places-next, places-last, walks-next, walks-taken}
 use Rattle.listing_nodes.proofs.StartLaws.{node-facts}
 use Rattle.listing_nodes.proofs.ListLaws.{start-length, next-start, start-kept, shaped-kept}
@@ -32,20 +31,22 @@ use Rattle.listing_nodes.proofs.WholeLaws.{Reached, reached-next}
 use Rattle.plan_rows.proofs.PlanLaws.{omission-is}
 use Rattle.listing_starts.specs.steps.Starts.{fullPasses, totalWith, pageWith}
 use Rattle.listing_starts.proofs.FullLaws.{node-added}
-use Rattle.alive_starts.specs.Alive.{Event, visit, plan, events, plansIn, visitsIn}
+use Rattle.alive_starts.specs.Alive.{Event, visit, plan, plansIn, isNone, passing, events}
 use Rattle.alive_starts.specs.Run.{Standing, standing, run, goesOn}
 use Rattle.alive_starts.proofs.RunLaws.{run-stopped, run-append, run-out, run-visit, run-plan, Ran, ran}
+use Rattle.alive_starts.proofs.EventLaws.{onward, passing-same, none-met}
 use Rattle.alive_starts.proofs.Visits.{plans-cost-turns}
 use Rattle.alive_starts.proofs.SameEvents.{Alike, events-same}
 use Rattle.place_sets.specs.Domains.{placeNumber}
-use Rattle.place_sets.proofs.DomainLaws.{number-le}
+use Rattle.place_sets.proofs.DomainLaws.{number-in, number-le}
 use Rattle.weight_tables.specs.Tables.{entryAt, weightAt}
 use Rattle.open_places.specs.Open.{openPlaces}
 use Rattle.decided_rows.proofs.ExactLaws.{rows-exact, front-stays, rows-split, rowsLeave-start}
 use Rattle.look_ahead.specs.Look.{nearEnd, lookedAhead, openedAt}
 use Rattle.look_ahead.proofs.LookLaws.{looked-start, seen-near, seen-far, opened-fits, opened-left, place-back}
-use Rattle.walk_steps.specs.Sight.{carried, withRows, decidedWith, afterChoice, seen, openTo, mayTake, nextIn, nextWithin, eyesOf, eventsFrom, eventsAt, eventsLeft, eventsSeen}
+use Rattle.walk_steps.specs.Sight.{carried, withRows, decidedWith, afterChoice, seen, openTo, mayTake, nextIn, nextWithin, passedOver, stillOpen, eyesOf, eventsFrom, eventsAt, openAfter, eventsLeft, eventsSeen}
 use Rattle.walk_steps.specs.Walks.{Filled, Ready, Walked, AllFit, Takes}
+use Rattle.walk_steps.proofs.StillLaws.{still-same, still-has, still-less}
 use Rattle.walk_steps.proofs.InLaws.{in-within, within-in, takes-next}
 use Rattle.walk_steps.proofs.SumsLaws.{with-sums}
 
@@ -90,24 +91,98 @@ module _ (slots : ℕ) (amounts : List ℕ) (choice : ℕ) (fills : List ℕ) (f
 
 -- ---- the events, by the code's numbers
 
-module _ (day : Day) (tables : List ℕ) (n : ℕ) (start sums fills domains : List ℕ) (opened : ℕ) where
-  -- the last so many places, and those from a slot on
-  left-past : (left : ℕ) → left ≤ day .counts .slots
-      → eventsLeft day tables n start sums fills domains opened (suc left) ≡ flatMap (eventsAt day tables n start sums fills domains opened) (placesFrom (day .counts .slots) (day .counts .slots - left))
-  unfolding eventsLeft placeOf flatMap
-  left-past zero h =
-      let z : day .counts .slots - 0 ≡ day .counts .slots = omega arith in
-      rw (z, places-last (day .counts .slots), le-ltb (day .counts .slots) (day .counts .slots) (omega arith))
-  left-past (suc left) h =
-      let k : day .counts .slots - suc left < day .counts .slots = omega arith in
-      let e : day .counts .slots - suc left + 1 ≡ day .counts .slots - left = omega arith in
-      rw (places-next (day .counts .slots) (day .counts .slots - suc left) k, lt-ltb (day .counts .slots - suc left) (day .counts .slots) k, e)
-      (ap (λ (l : List Event). eventsAt day tables n start sums fills domains opened (day .counts .slots - suc left) ++ l) (left-past left (omega arith)))
+and-three : (a b c : Bool) → (a && b && c) ≡ (a && (b && c))
+and-three true b c = refl
+and-three false b c = refl
 
-  -- one place, and those after it
+-- one place, and those after it
+module _ (day : Day) (tables : List ℕ) (n : ℕ) (start sums fills domains : List ℕ) where
+  -- what happens at a place that is open
+  abbrev atPlace : ℕ → List Event
+  atPlace place =
+      eventsFrom day tables n (start ++ (place ∷ [])) (sumsWith (day .counts .slots) (day .mins) sums (length start) place) (sumsWith (day .counts .slots) (day .maxs) fills (length start) place) domains
+
+  -- whether a place is open
+  abbrev opensAt : ℕ → ℕ → Bool
+  opensAt opened place = mayTake (day .counts .slots) (day .counts .choosers) (day .mins) (day .optional) sums opened (length start) place
+
+  -- whether a later place is the twin of one, by their numbers
+  abbrev twinAt : ℕ → ℕ → Bool
+  twinAt place later =
+      passedOver (day .counts) (length start) start (day .rows) sums fills (placeNumber (day .counts .slots) place) (placeNumber (day .counts .slots) later)
+
+  -- what is still open after a place that was
+  abbrev stillAt : ℕ → ℕ → ℕ → ℕ
+  stillAt opened at place = stillOpen (day .counts) (length start) start (day .rows) sums fills at (isNone (plansIn (atPlace place))) opened
+
+  -- the place comes first if it is open, and takes its twins away if it meets no plan
+  left-split : (opened left : ℕ)
+      → eventsLeft day tables n start sums fills domains opened (suc left)
+      ≡ cond (opensAt opened (placeOf (day .counts .slots) (day .counts .slots - left)))
+      (atPlace (placeOf (day .counts .slots) (day .counts .slots - left)) ++ eventsLeft day tables n start sums fills domains (stillAt opened (day .counts .slots - left) (placeOf (day .counts .slots) (day .counts .slots - left))) left)
+      (eventsLeft day tables n start sums fills domains opened left)
+  unfolding eventsLeft eventsAt openAfter
+  left-split opened left = go (opensAt opened (placeOf (day .counts .slots) (day .counts .slots - left)))
+    where
+      here : List Event
+      here = atPlace (placeOf (day .counts .slots) (day .counts .slots - left))
+
+      go : (b : Bool)
+          → cond b here [] ++ eventsLeft day tables n start sums fills domains (cond b (stillOpen (day .counts) (length start) start (day .rows) sums fills (day .counts .slots - left) (isNone (plansIn (cond b here []))) opened) opened) left
+          ≡ cond b (here ++ eventsLeft day tables n start sums fills domains (stillOpen (day .counts) (length start) start (day .rows) sums fills (day .counts .slots - left) (isNone (plansIn here)) opened) left)
+          (eventsLeft day tables n start sums fills domains opened left)
+      go true = refl
+      go false = refl
+
+  -- the places that stay open after a slot, as a set and one by one
+  still-opens : (few : day .counts .slots ≤ 24) (opened slot : ℕ) → slot < day .counts .slots → onward atPlace twinAt (opensAt opened) slot ≡ opensAt (stillAt opened slot slot)
+  unfolding mayTake
+  still-opens few opened slot h =
+      fun-ext λ later.
+      let slots = day .counts .slots in
+      let fits = placeFits slots (day .counts .choosers) (day .mins) (day .optional) sums (length start) later in
+      let unmet = isNone (plansIn (atPlace slot)) in
+      and-three fits (has opened (placeNumber slots later)) (not (unmet && twinAt slot later))
+      ∙ ap (λ (at : ℕ). fits && (has opened (placeNumber slots later) && not (unmet && passedOver (day .counts) (length start) start (day .rows) sums fills at (placeNumber slots later)))) (number-in slots slot h)
+      ∙ ap (λ (b : Bool). fits && b)
+      (sym (still-has (day .counts) (length start) start (day .rows) sums fills slot opened unmet (placeNumber slots later) (omega (arith, number-le slots later, few))))
+
+  -- so the walk over the places from a slot on is that over the last so many
+  left-passing : (few : day .counts .slots ≤ 24) (left opened : ℕ) → left ≤ day .counts .slots
+      → passing atPlace twinAt (opensAt opened) (placesFrom (day .counts .slots) (day .counts .slots - left)) ≡ eventsLeft day tables n start sums fills domains opened (suc left)
+  unfolding passing placeOf eventsLeft
+  left-passing few zero opened h =
+      let slots = day .counts .slots in
+      let z : slots - 0 ≡ slots = omega arith in
+      sym (left-split opened 0 ∙ rw (z, places-last slots, le-ltb slots slots (omega arith)))
+  left-passing few (suc left) opened h =
+      let slots = day .counts .slots in
+      let k : slots - suc left < slots = omega arith in
+      let e : slots - suc left + 1 ≡ slots - left = omega arith in
+      rw (places-next slots (slots - suc left) k, left-split opened (suc left), lt-ltb (slots - suc left) slots k, e, still-opens few opened (slots - suc left) k)
+      (go (opensAt opened (slots - suc left)) (left-passing few left opened (omega arith)) (left-passing few left (stillAt opened (slots - suc left) (slots - suc left)) (omega arith)))
+    where
+      go : (b : Bool) {one other one' other' : List Event} → one ≡ one' → other ≡ other'
+          → cond b (atPlace (day .counts .slots - suc left) ++ other) one ≡ cond b (atPlace (day .counts .slots - suc left) ++ other') one'
+      go true p q = ap (λ (l : List Event). atPlace (day .counts .slots - suc left) ++ l) q
+      go false p q = p
+
+  -- and over all of them that over all places
+  left-all : (few : day .counts .slots ≤ 24) (opened : ℕ)
+      → passing atPlace twinAt (opensAt opened) (places (day .counts .slots)) ≡ eventsLeft day tables n start sums fills domains opened (day .counts .slots + 1)
+  left-all few opened =
+      let slots = day .counts .slots in
+      let z : slots - slots ≡ 0 = omega arith in
+      ap (passing atPlace twinAt (opensAt opened)) (sym (ap (placesFrom slots) z ∙ places-start slots))
+      ∙ left-passing few slots opened (omega arith)
+      ∙ ap (eventsLeft day tables n start sums fills domains opened) (sym (add-one slots))
+
+module _ (day : Day) (tables : List ℕ) (n : ℕ) (start sums fills domains : List ℕ) (opened : ℕ) where
+  -- the last so many places: the first of them, and those after it
   left-next : (left : ℕ) → 0 < left
       → eventsLeft day tables n start sums fills domains opened left
-      ≡ eventsAt day tables n start sums fills domains opened (placeOf (day .counts .slots) (day .counts .slots + 1 - left)) ++ eventsLeft day tables n start sums fills domains opened (left - 1)
+      ≡ eventsAt day tables n start sums fills domains opened (placeOf (day .counts .slots) (day .counts .slots + 1 - left))
+      ++ eventsLeft day tables n start sums fills domains (openAfter day tables n start sums fills domains opened (day .counts .slots + 1 - left)) (left - 1)
   unfolding eventsLeft
   left-next zero h = absurd (omega arith)
   left-next (suc left) h =
@@ -123,10 +198,17 @@ module _ (day : Day) (tables : List ℕ) (n : ℕ) (start sums fills domains : L
     unfolding eventsAt
     events-taken place t = rw (at, t)
 
+    -- what is open after it
+    after-taken : (number : ℕ) → mayTake (day .counts .slots) (day .counts .choosers) (day .mins) (day .optional) sums opened choice (placeOf (day .counts .slots) number) ≡ true
+        → openAfter day tables n start sums fills domains opened number
+        ≡ stillOpen (day .counts) choice start (day .rows) sums fills number (isNone (plansIn (eventsAt day tables n start sums fills domains opened (placeOf (day .counts .slots) number)))) opened
+    unfolding openAfter
+    after-taken number t = rw (at, t)
+
     -- those before the next one that it may take add nothing
     left-in : (left : ℕ)
         → eventsLeft day tables n start sums fills domains opened (nextIn (day .counts .slots) (day .counts .choosers) (day .mins) (day .optional) sums opened choice left) ≡ eventsLeft day tables n start sums fills domains opened left
-    unfolding eventsLeft nextIn eventsAt
+    unfolding nextIn
     left-in zero = refl
     left-in (suc left) = go (mayTake (day .counts .slots) (day .counts .choosers) (day .mins) (day .optional) sums opened choice (placeOf (day .counts .slots) (day .counts .slots - left))) refl (left-in left)
       where
@@ -134,7 +216,7 @@ module _ (day : Day) (tables : List ℕ) (n : ℕ) (start sums fills domains : L
             → eventsLeft day tables n start sums fills domains opened (nextIn (day .counts .slots) (day .counts .choosers) (day .mins) (day .optional) sums opened choice left) ≡ eventsLeft day tables n start sums fills domains opened left
             → eventsLeft day tables n start sums fills domains opened (cond b (suc left) (nextIn (day .counts .slots) (day .counts .choosers) (day .mins) (day .optional) sums opened choice left)) ≡ eventsLeft day tables n start sums fills domains opened (suc left)
         go true t ih = refl
-        go false t ih = ih ∙ rw (at, t)
+        go false t ih = ih ∙ sym (left-split day tables n start sums fills domains opened left ∙ rw (at, t))
 
 -- ---- the rows that the next choice decides
 
@@ -196,35 +278,25 @@ module _ (day : Day) (tables : List ℕ) (start sums fills domains : List ℕ) (
   unfolding eventsFrom events eyesOf eventsAt bodyOf eventsSeen
   events-are zero short = refl
   events-are (suc n) short =
-      let z : day .counts .slots - day .counts .slots ≡ 0 = omega arith in
+      let slots = day .counts .slots in
       let sees = seen day tables start domains in
       let opened = openTo day tables start sums fills sees in
       let after = afterChoice day (length start) in
       ap (λ (l : List Event). visit ∷ l)
-      (flatMap-ext
-      (λ place. cond (mayTake (day .counts .slots) (day .counts .choosers) (day .mins) (day .optional) sums opened (length start) place)
-      (events day (eyesOf day tables) n (start ++ (place ∷ [])) (carried (sumsWith (day .counts .slots) (day .mins) sums (length start) place) (sumsWith (day .counts .slots) (day .maxs) fills (length start) place) sees (after .rows))) [])
-      (eventsAt after tables n start sums fills sees opened) (places (day .counts .slots))
-      (λ place. at-place place (mayTake (day .counts .slots) (day .counts .choosers) (day .mins) (day .optional) sums opened (length start) place) refl)
-      ∙ sym
-      (rw (add-one (day .counts .slots))
-      (left-past after tables n start sums fills sees opened (day .counts .slots) (omega arith)
-      ∙ rw (z, places-start (day .counts .slots)))))
+      (passing-same
+      (λ place. events day (eyesOf day tables) n (start ++ (place ∷ [])) (carried (sumsWith slots (day .mins) sums (length start) place) (sumsWith slots (day .maxs) fills (length start) place) sees (after .rows)))
+      (atPlace after tables n start sums fills sees) (twinAt after tables n start sums fills sees) (opensAt after tables n start sums fills sees opened) (places slots) at-place
+      ∙ left-all after tables n start sums fills sees few opened)
     where
-      at-place : (place : ℕ) (b : Bool) → mayTake (day .counts .slots) (day .counts .choosers) (day .mins) (day .optional) sums (openTo day tables start sums fills (seen day tables start domains)) (length start) place ≡ b
-          → cond b
-          (events day (eyesOf day tables) n (start ++ (place ∷ []))
-          (carried (sumsWith (day .counts .slots) (day .mins) sums (length start) place) (sumsWith (day .counts .slots) (day .maxs) fills (length start) place) (seen day tables start domains) (afterChoice day (length start) .rows)))
-          []
-          ≡ cond b
-          (events (afterChoice day (length start)) (eyesOf day tables) n (start ++ (place ∷ []))
-          (carried (sumsWith (day .counts .slots) (day .mins) sums (length start) place) (sumsWith (day .counts .slots) (day .maxs) fills (length start) place) (seen day tables start domains) (afterChoice day (length start) .rows)))
-          []
-      at-place place true t =
+      at-place : (place : ℕ) → mayTake (day .counts .slots) (day .counts .choosers) (day .mins) (day .optional) sums (openTo day tables start sums fills (seen day tables start domains)) (length start) place ≡ true
+          → events day (eyesOf day tables) n (start ++ (place ∷ []))
+          (carried (sumsWith (day .counts .slots) (day .mins) sums (length start) place) (sumsWith (day .counts .slots) (day .maxs) fills (length start) place) (seen day tables start domains) (afterChoice day (length start) .rows))
+          ≡ events (afterChoice day (length start)) (eyesOf day tables) n (start ++ (place ∷ []))
+          (carried (sumsWith (day .counts .slots) (day .mins) sums (length start) place) (sumsWith (day .counts .slots) (day .maxs) fills (length start) place) (seen day tables start domains) (afterChoice day (length start) .rows))
+      at-place place t =
           events-same day (afterChoice day (length start)) (eyesOf day tables) refl n (start ++ (place ∷ []))
           (carried (sumsWith (day .counts .slots) (day .mins) sums (length start) place) (sumsWith (day .counts .slots) (day .maxs) fills (length start) place) (seen day tables start domains) (afterChoice day (length start) .rows))
           (decided-alike day tables start sums fills (seen day tables start domains) few node (short (omega arith)) place t)
-      at-place place false t = refl
 
 -- a full start: the plan that the plan check passes is counted
 run-full : (day : Day) (first room turns : ℕ) (p : List ℕ) {met met' : ℕ} {buffer buffer' : List ℕ} → goesOn first room met ≡ true
@@ -502,6 +574,11 @@ both-left false b e = e
 abbrev placeWith : Day → ℕ → ℕ
 placeWith day left = placeOf (day .counts .slots) (day .counts .slots + 1 - left)
 
+-- what is open after the place with so many left
+abbrev afterWith : Day → List ℕ → ℕ → List ℕ → List ℕ → List ℕ → List ℕ → ℕ → ℕ → ℕ
+afterWith day tables choice p sums fills domains opened left =
+    openAfter day tables (length p - (choice + 1)) (take choice p) sums fills domains opened (day .counts .slots + 1 - left)
+
 module _ (choice opened left : ℕ) {day : Day} {first room : ℕ} {p sums fills : List ℕ} {turns met : ℕ} {buffer : List ℕ} (tables domains : List ℕ)
     (l : Ready day first room (choice + 1) choice p sums fills turns met buffer) (o : Takes day choice opened left sums) where
   pub within-plan : choice < length p
@@ -574,7 +651,7 @@ module _ (choice opened left : ℕ) {day : Day} {first room : ℕ} {p sums fills
 
     module _ {r : Bool} {turns₁ met₁ : ℕ} {p₁ sums₁ fills₁ buffer₁ : List ℕ}
         (g : Walked first room (choice + 1) (hereOf day tables (choice + 1) p' sums' fills' domains) p' p₁ sums' sums₁ fills' fills₁ (standing true turns met buffer) (standing r turns₁ met₁ buffer₁)) where
-      module _ {sums₂ fills₂ : List ℕ} (e : sums₂ ≡ sumsWithout (day .counts .slots) (day .mins) sums₁ choice (placeWith day left))
+      module _ {p₂ sums₂ fills₂ : List ℕ} (s : p₂ ≡ p₁) (e : sums₂ ≡ sumsWithout (day .counts .slots) (day .mins) sums₁ choice (placeWith day left))
           (e' : fills₂ ≡ sumsWithout (day .counts .slots) (day .maxs) fills₁ choice (placeWith day left)) where
         sums-back : sums₂ ≡ sums
         sums-back = e ∙ rw (g .same-sums ∙ q-is) (amounts-left (day .counts .slots) (day .mins) choice sums (l .shaped .few-slots) (l .walks .entries) (placeWith day left))
@@ -582,90 +659,117 @@ module _ (choice opened left : ℕ) {day : Day} {first room : ℕ} {p sums fills
         fills-back : fills₂ ≡ fills
         fills-back = e' ∙ rw (g .same-fills ∙ f-is) (amounts-left (day .counts .slots) (day .maxs) choice fills (l .shaped .few-slots) (l .filled .entries) (placeWith day left))
 
-        same : length p₁ ≡ length p
-        same = g .same-plan ∙ ap length p-is ∙ length-set p choice (placeWith day left)
+        same : length p₂ ≡ length p
+        same = ap length s ∙ g .same-plan ∙ ap length p-is ∙ length-set p choice (placeWith day left)
 
         before : take choice p₁ ≡ take choice p
         before = start-kept choice p within-plan (placeWith day left) p₁ (rw p-is at (g .start))
 
+        start-back : take choice p₂ ≡ take choice p
+        start-back = ap (take choice) s ∙ before
+
         -- the place, and those after it
         left-run : run first room (standing true turns met buffer) (leftOf day tables choice p sums fills domains opened left)
-            ≡ run first room (standing r turns₁ met₁ buffer₁) (leftOf day tables choice p sums fills domains opened (left - 1))
+            ≡ run first room (standing r turns₁ met₁ buffer₁) (leftOf day tables choice p sums fills domains (afterWith day tables choice p sums fills domains opened left) (left - 1))
         left-run =
             ap (run first room (standing true turns met buffer)) (left-next day tables (length p - (choice + 1)) (take choice p) sums fills domains opened left (o .some))
-            ∙ run-append first room (standing true turns met buffer) (eventsAt day tables (length p - (choice + 1)) (take choice p) sums fills domains opened (placeWith day left)) (leftOf day tables choice p sums fills domains opened (left - 1))
-            ∙ ap (λ (s : Standing). run first room s (leftOf day tables choice p sums fills domains opened (left - 1)))
+            ∙ run-append first room (standing true turns met buffer) (eventsAt day tables (length p - (choice + 1)) (take choice p) sums fills domains opened (placeWith day left)) (leftOf day tables choice p sums fills domains (afterWith day tables choice p sums fills domains opened left) (left - 1))
+            ∙ ap (λ (s : Standing). run first room s (leftOf day tables choice p sums fills domains (afterWith day tables choice p sums fills domains opened left) (left - 1)))
             (ap (run first room (standing true turns met buffer)) here-events ∙ sym (g .stands))
 
         moved : {after : Standing} → after ≡ run first room (standing true turns met buffer) (leftOf day tables choice p sums fills domains opened left)
-            → Walked first room choice (leftOf day tables choice p sums fills domains opened left) p p₁ sums sums₂ fills fills₂ (standing true turns met buffer) after
-        moved k = record { stands = k; start = before; same-sums = sums-back; same-fills = fills-back; same-plan = same }
+            → Walked first room choice (leftOf day tables choice p sums fills domains opened left) p p₂ sums sums₂ fills fills₂ (standing true turns met buffer) after
+        moved k = record { stands = k; start = start-back; same-sums = sums-back; same-fills = fills-back; same-plan = same }
 
         -- the walk has ended
         pub walked-stopped : r ≡ false
-            → Walked first room choice (leftOf day tables choice p sums fills domains opened left) p p₁ sums sums₂ fills fills₂ (standing true turns met buffer) (standing false turns₁ met₁ buffer₁)
+            → Walked first room choice (leftOf day tables choice p sums fills domains opened left) p p₂ sums sums₂ fills fills₂ (standing true turns met buffer) (standing false turns₁ met₁ buffer₁)
         walked-stopped f =
             moved
             (ap (λ (c : Bool). standing c turns₁ met₁ buffer₁) (sym f)
-            ∙ sym (left-run ∙ run-stopped first room (standing r turns₁ met₁ buffer₁) (leftOf day tables choice p sums fills domains opened (left - 1)) f))
+            ∙ sym (left-run ∙ run-stopped first room (standing r turns₁ met₁ buffer₁) (leftOf day tables choice p sums fills domains (afterWith day tables choice p sums fills domains opened left) (left - 1)) f))
 
         -- or goes on to the places left that it may take
-        module _ (t : r ≡ true) {next : ℕ} (h : next ≡ nextWithin (day .counts .slots) opened (left - 1)) where
-          -- with the sums as before every place of the domain fits again
-          fits-again : AllFit (day .counts .slots) (day .counts .choosers) (day .mins) (day .optional) sums₂ opened choice
-          fits-again = rw sums-back (o .all-fit)
+        module _ (t : r ≡ true) {still next : ℕ}
+            (w : still ≡ stillOpen (day .counts) choice (take choice p₁) (day .rows) sums₂ fills₂ (day .counts .slots + 1 - left) (eqb met met₁) opened)
+            (h : next ≡ nextWithin (day .counts .slots) still (left - 1)) where
+          ran-here : Ran first room turns met buffer (hereOf day tables (choice + 1) p' sums' fills' domains) (standing r turns₁ met₁ buffer₁)
+          ran-here = rw (g .stands) (ran first room (hereOf day tables (choice + 1) p' sums' fills' domains) turns met buffer (l .unfinished))
 
-          m : next ≡ nextIn (day .counts .slots) (day .counts .choosers) (day .mins) (day .optional) sums₂ opened choice (left - 1)
+          -- the number of plans is as before if none was met at the place
+          unmet-is : eqb met met₁ ≡ isNone (plansIn (eventsAt day tables (length p - (choice + 1)) (take choice p) sums fills domains opened (placeWith day left)))
+          unmet-is =
+              none-met met met₁ (plansIn (hereOf day tables (choice + 1) p' sums' fills' domains)) (ran-here .number ∙ ap (λ (k : ℕ). met + k) (ran-here .on t .0))
+              ∙ ap (λ (es : List Event). isNone (plansIn es)) (sym here-events)
+
+          -- so what is still open is what the walk has open after the place
+          still-is : still ≡ afterWith day tables choice p sums fills domains opened left
+          still-is =
+              w
+              ∙ still-same (day .counts) choice (day .rows) (day .counts .slots + 1 - left) opened before sums-back fills-back unmet-is
+              ∙ sym (after-taken day tables (length p - (choice + 1)) (take choice p) sums fills domains opened at-start (day .counts .slots + 1 - left) (o .fits))
+
+          -- with the sums as before every place of the domain fits again
+          fits-again : AllFit (day .counts .slots) (day .counts .choosers) (day .mins) (day .optional) sums₂ still choice
+          unfolding AllFit
+          fits-again at k i =
+              rw sums-back
+              (o .all-fit at k
+              (still-less (day .counts) choice (take choice p₁) (day .rows) sums₂ fills₂ (day .counts .slots + 1 - left) opened (eqb met met₁) at (omega (arith, k, l .shaped .few-slots))
+              (ap (λ (s : ℕ). has s at) (sym w) ∙ i)))
+
+          m : next ≡ nextIn (day .counts .slots) (day .counts .choosers) (day .mins) (day .optional) sums₂ still choice (left - 1)
           m =
               h
-              ∙ within-in (day .counts .slots) (day .counts .choosers) (day .mins) (day .optional) sums₂ opened choice (l .shaped .few-slots) fits-again (left - 1)
+              ∙ within-in (day .counts .slots) (day .counts .choosers) (day .mins) (day .optional) sums₂ still choice (l .shaped .few-slots) fits-again (left - 1)
               (omega (arith, o .few))
 
           pub fewer : next < left
-          fewer = omega (arith, m, in-within (day .counts .slots) (day .counts .choosers) (day .mins) (day .optional) sums₂ opened choice (left - 1), o .some)
+          fewer = omega (arith, m, in-within (day .counts .slots) (day .counts .choosers) (day .mins) (day .optional) sums₂ still choice (left - 1), o .some)
 
-          rest-events : leftOf day tables choice p₁ sums₂ fills₂ domains opened next ≡ leftOf day tables choice p sums fills domains opened (left - 1)
+          rest-events : leftOf day tables choice p₂ sums₂ fills₂ domains still next ≡ leftOf day tables choice p sums fills domains (afterWith day tables choice p sums fills domains opened left) (left - 1)
           rest-events =
-              rw (same, before, m)
-              (rw (sums-back, fills-back) (left-in day tables (length p - (choice + 1)) (take choice p) sums fills domains opened at-start (left - 1)))
+              rw (same, start-back, m)
+              (rw (sums-back, fills-back) (left-in day tables (length p - (choice + 1)) (take choice p) sums fills domains still at-start (left - 1)))
+              ∙ ap (λ (s : ℕ). leftOf day tables choice p sums fills domains s (left - 1)) still-is
 
           rest-run : run first room (standing true turns met buffer) (leftOf day tables choice p sums fills domains opened left)
-              ≡ run first room (standing true turns₁ met₁ buffer₁) (leftOf day tables choice p₁ sums₂ fills₂ domains opened next)
+              ≡ run first room (standing true turns₁ met₁ buffer₁) (leftOf day tables choice p₂ sums₂ fills₂ domains still next)
           rest-run =
               left-run
-              ∙ ap (λ (c : Bool). run first room (standing c turns₁ met₁ buffer₁) (leftOf day tables choice p sums fills domains opened (left - 1))) t
+              ∙ ap (λ (c : Bool). run first room (standing c turns₁ met₁ buffer₁) (leftOf day tables choice p sums fills domains (afterWith day tables choice p sums fills domains opened left) (left - 1))) t
               ∙ ap (run first room (standing true turns₁ met₁ buffer₁)) (sym rest-events)
 
           pub walked-last : next ≡ 0
-              → Walked first room choice (leftOf day tables choice p sums fills domains opened left) p p₁ sums sums₂ fills fills₂ (standing true turns met buffer) (standing true turns₁ met₁ buffer₁)
+              → Walked first room choice (leftOf day tables choice p sums fills domains opened left) p p₂ sums sums₂ fills fills₂ (standing true turns met buffer) (standing true turns₁ met₁ buffer₁)
           unfolding eventsLeft run
-          walked-last z = moved (sym (rest-run ∙ ap (λ (i : ℕ). run first room (standing true turns₁ met₁ buffer₁) (leftOf day tables choice p₁ sums₂ fills₂ domains opened i)) z))
+          walked-last z = moved (sym (rest-run ∙ ap (λ (i : ℕ). run first room (standing true turns₁ met₁ buffer₁) (leftOf day tables choice p₂ sums₂ fills₂ domains still i)) z))
 
-          pub rest-requires : length buffer₁ ≡ length buffer → (next ≡ 0 → ⊥) → Ready day first room (choice + 1) choice p₁ sums₂ fills₂ turns₁ met₁ buffer₁ × Takes day choice opened next sums₂
+          pub rest-requires : length buffer₁ ≡ length buffer → (next ≡ 0 → ⊥) → Ready day first room (choice + 1) choice p₂ sums₂ fills₂ turns₁ met₁ buffer₁ × Takes day choice still next sums₂
           unfolding eventsFrom
           rest-requires b k =
-              let a : Ran first room turns met buffer (hereOf day tables (choice + 1) p' sums' fills' domains) (standing r turns₁ met₁ buffer₁) = rw (g .stands) (ran first room (hereOf day tables (choice + 1) p' sums' fills' domains) turns met buffer (l .unfinished)) in
+              let a = ran-here in
               let c = plans-cost-turns day (eyesOf day tables) (length p' - (choice + 1)) (take (choice + 1) p') (carried sums' fills' domains (day .rows)) in (
                 record {
                   shaped = shaped-kept (l .shaped) same b;
                   walks = rw sums-back (l .walks);
                   filled = rw fills-back (l .filled);
-                  node = rw before (l .node);
-                  least = rw (before, sums-back) (l .least);
-                  most = rw (before, fills-back) (l .most);
+                  node = rw start-back (l .node);
+                  least = rw (start-back, sums-back) (l .least);
+                  most = rw (start-back, fills-back) (l .most);
                   unfinished = a .on t .2;
                   numbers = omega (arith, l .numbers, a .number, a .on t .0, a .on t .1, c);
                 },
-                takes-next day choice (left - 1) sums₂ opened (omega (arith, o .few)) fits-again m k,
+                takes-next day choice (left - 1) sums₂ still (omega (arith, o .few)) fits-again m k,
               )
 
-          pub walked-rest : {after : Standing} {p₂ sums₃ fills₃ : List ℕ}
-              → Walked first room choice (leftOf day tables choice p₁ sums₂ fills₂ domains opened next) p₁ p₂ sums₂ sums₃ fills₂ fills₃ (standing true turns₁ met₁ buffer₁) after
-              → Walked first room choice (leftOf day tables choice p sums fills domains opened left) p p₂ sums sums₃ fills fills₃ (standing true turns met buffer) after
+          pub walked-rest : {after : Standing} {p₃ sums₃ fills₃ : List ℕ}
+              → Walked first room choice (leftOf day tables choice p₂ sums₂ fills₂ domains still next) p₂ p₃ sums₂ sums₃ fills₂ fills₃ (standing true turns₁ met₁ buffer₁) after
+              → Walked first room choice (leftOf day tables choice p sums fills domains opened left) p p₃ sums sums₃ fills fills₃ (standing true turns met buffer) after
           walked-rest d =
               record {
                 stands = d .stands ∙ sym rest-run;
-                start = d .start ∙ before;
+                start = d .start ∙ start-back;
                 same-sums = d .same-sums ∙ sums-back;
                 same-fills = d .same-fills ∙ fills-back;
                 same-plan = d .same-plan ∙ same;

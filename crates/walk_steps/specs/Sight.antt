@@ -1,16 +1,18 @@
 -- The eyes of the walk: what it carries along beside a start, and what it looks at.
-use mathlib.Core.Bool.{Bool, true, _&&_, cond}
+use mathlib.Core.Bool.{Bool, true, _&&_, not, cond}
 use mathlib.Core.List.{List, [], _∷_, _++_}
 use Prim.Native.Nat.{ℕ, zero, suc, _+_, _-_}
 use lib.Dec.{leb}
 use lib.ListN.{length, getD, take, drop}
-use Rattle.choice_sets.specs.Sets.{has}
+use Rattle.choice_sets.specs.Sets.{has, setOf}
+use Rattle.constraint.specs.declared.check.Counts.{Counts}
 use Rattle.scheduling.specs.Day.{Day, dayOf}
 use Rattle.listing_nodes.specs.steps.Walk.{placeOf, placeFits, sumsWith}
-use Rattle.alive_starts.specs.Alive.{Event, Eyes, events}
+use Rattle.alive_starts.specs.Alive.{Event, plansIn, isNone, Eyes, events}
 use Rattle.place_sets.specs.Domains.{placeNumber}
 use Rattle.decided_rows.specs.Decided.{frontOf}
-use Rattle.look_ahead.specs.Look.{seenAt, openedAt}
+use Rattle.twin_slots.specs.Twins.{twinsOf}
+use Rattle.look_ahead.specs.Look.{nearEnd, seenAt, openedAt}
 
 -- each slot's sum of minimums and of maximums, the domains, and the rows that are not decided yet
 pub record Carried : Type 0 where
@@ -65,6 +67,16 @@ nextHas slots domain (suc left) = cond (has domain (slots - left)) (suc left) (n
 unfoldable pub nextWithin : ℕ → ℕ → ℕ → ℕ
 nextWithin slots domain left = cond (leb slots 24 && leb left (slots + 1)) (nextHas slots domain left) 0
 
+-- a later place is passed over if it is the twin of one that has met no plan, by their numbers; near the end no twins are looked for
+unfoldable pub passedOver : Counts → ℕ → List ℕ → List ℕ → List ℕ → List ℕ → ℕ → ℕ → Bool
+passedOver counts choice start rows sums fills at later =
+    not (nearEnd (counts .choices) choice) && has (twinsOf counts start rows sums fills at) later
+
+-- what is still open of a choice's places once it has stood at one of them, with no plan met there or some
+unfoldable pub stillOpen : Counts → ℕ → List ℕ → List ℕ → List ℕ → List ℕ → ℕ → Bool → ℕ → ℕ
+stillOpen counts choice start rows sums fills at unmet opened =
+    cond (unmet && not (nearEnd (counts .choices) choice)) (setOf 64 λ later. has opened later && not (has (twinsOf counts start rows sums fills at) later)) opened
+
 -- the walk's eyes: what isn't worth it is told by the places that are open, one step before
 unfoldable pub eyesOf : Day → List ℕ → Eyes Carried
 eyesOf day tables =
@@ -77,6 +89,8 @@ eyesOf day tables =
           (sumsWith (day .counts .slots) (day .maxs) (x .fills) (length start) place)
           (seen (withRows day (x .rows)) tables start (x .domains))
           (afterChoice (withRows day (x .rows)) (length start) .rows);
+      twin = λ start x place later. passedOver (day .counts) (length start) start (afterChoice (withRows day (x .rows)) (length start) .rows) (x .sums) (x .fills)
+          (placeNumber (day .counts .slots) place) (placeNumber (day .counts .slots) later);
     }
 
 module _ (day : Day) (tables : List ℕ) where
@@ -91,11 +105,19 @@ module _ (day : Day) (tables : List ℕ) where
       (eventsFrom n (start ++ (place ∷ [])) (sumsWith (day .counts .slots) (day .mins) sums (length start) place) (sumsWith (day .counts .slots) (day .maxs) fills (length start) place) domains)
       []
 
-  -- with one of the last so many places
+  -- what is open after a place, by its number: as before if the choice may not take it
+  unfoldable pub openAfter : ℕ → List ℕ → List ℕ → List ℕ → List ℕ → ℕ → ℕ → ℕ
+  openAfter n start sums fills domains opened at =
+      cond (mayTake (day .counts .slots) (day .counts .choosers) (day .mins) (day .optional) sums opened (length start) (placeOf (day .counts .slots) at))
+      (stillOpen (day .counts) (length start) start (day .rows) sums fills at (isNone (plansIn (eventsAt n start sums fills domains opened (placeOf (day .counts .slots) at)))) opened)
+      opened
+
+  -- with one of the last so many places, but for the twins of those that meet no plan
   unfoldable pub eventsLeft : ℕ → List ℕ → List ℕ → List ℕ → List ℕ → ℕ → ℕ → List Event
   eventsLeft n start sums fills domains opened zero = []
   eventsLeft n start sums fills domains opened (suc left) =
-      eventsAt n start sums fills domains opened (placeOf (day .counts .slots) (day .counts .slots - left)) ++ eventsLeft n start sums fills domains opened left
+      eventsAt n start sums fills domains opened (placeOf (day .counts .slots) (day .counts .slots - left))
+      ++ eventsLeft n start sums fills domains (openAfter n start sums fills domains opened (day .counts .slots - left)) left
 
 -- with any place that is open, the rows that the next choice decides left behind
 unfoldable pub eventsSeen : Day → List ℕ → ℕ → List ℕ → List ℕ → List ℕ → List ℕ → List Event

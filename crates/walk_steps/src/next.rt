@@ -2,6 +2,7 @@
 use decided_rows::last::front_of;
 use listing_starts::full::SLOTS;
 use look_ahead::see::open_to;
+use weight_tables::entry::less;
 ghost use mathlib.Core.Path.{_≡_};
 ghost use Prim.Native.Nat.{_+_, _-_, _≤_};
 ghost use lib.Count.{trailingZeros};
@@ -45,6 +46,13 @@ pub fn first_in(slots: usize, domain: u64) -> usize
     next_in(slots, domain, slots + 1)
 }
 
+// How many are left from the next open place on, after the one with so many left; 0 if there is none.
+pub fn next_after(asked: &[usize; 6], places: u64, left: usize) -> usize
+    ensures { λ r. ⌜ r ≡ nextWithin (getD (now (asked .entry)) 1 0) places (left - 1) ⌝ }
+{
+    next_in(asked[SLOTS], places, less(left, 1))
+}
+
 // A list without its first so many rows; none are left of a shorter one.
 pub fn rows_after(rows: &[u64], front: usize) -> &[u64]
     ensures { λ r. ⌜ now r ≡ drop front (now (rows .entry)) ⌝ }
@@ -69,7 +77,7 @@ pub fn open_next(
     maxs: &[u16],
     optional: &[u8],
     rows: &[u64],
-    tables: &[u16; 52_516],
+    tables: &[u16; 69_416],
     choice: usize,
     plan: &mut [u8],
     sums: &[usize; 24],

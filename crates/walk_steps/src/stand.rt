@@ -1,14 +1,26 @@
-// What the walk does at a place: the sums with the choice there, and without it again.
+// What the walk does at a place: the sums with the choice there, and without it again, and the places that are open after it.
 use super::next::next_in;
 use listing_nodes::nodes::wide;
 use listing_starts::full::SLOTS;
+use listing_starts::full::counts_of;
 use listing_starts::places::place_at;
+use look_ahead::see::near_end;
 use plan_rows::plan::OMITTED;
+use twin_slots::twins::twins_of;
 use weight_tables::entry::less;
 ghost use mathlib.Core.Path.{_≡_};
+ghost use mathlib.Core.Bool.{true, _&&_, not};
 ghost use Prim.Native.Nat.{_<_, _^_};
-ghost use lib.ListN.{getD};
+ghost use lib.Dec.{eqb};
+ghost use lib.ListN.{getD, take};
+ghost use Rattle.choice_sets.specs.Sets.{has, setOf};
+ghost use Rattle.listing_nodes.specs.steps.Walk.{countsOf};
+ghost use Rattle.twin_slots.specs.Twins.{twinsOf};
+ghost use Rattle.walk_steps.specs.Sight.{stillOpen};
 ghost use Rattle.walk_steps.specs.Stand.{putAt, addedAt, takenAt, Taken, LeftPlace};
+
+// Where the number of choices stands among those that all the starts share.
+const CHOICES: usize = 0;
 
 // Where a choice stands, and the minimum and the maximum that it brings there.
 pub struct Stood {
@@ -108,4 +120,54 @@ pub fn leave_place(
     take_at(slots, stood.place, stood.least, sums);
     take_at(slots, stood.place, stood.most, fills);
     next_in(slots, places, less(left, 1))
+}
+
+// Whether no plan was met, by how many had been met before and how many have by now.
+pub fn none_met(before: u64, met: u64) -> bool
+    ensures { λ r. ⌜ r ≡ eqb before met ⌝ }
+{
+    before == met
+}
+
+// The places of a set without those of another.
+fn without(places: u64, others: u64) -> u64
+    ensures { λ r. ⌜ r ≡ setOf 64 (λ place. has places place && not (has others place)) ⌝ }
+{
+    places ^ (places & others)
+}
+
+// A choice's places without the twins of one of them.
+fn without_twins(
+    asked: &[usize; 6],
+    rows: &[u64],
+    choice: usize,
+    plan: &mut [u8],
+    place: usize,
+    places: u64,
+    sums: &[usize; 24],
+    fills: &[usize; 24],
+) -> u64
+    ensures { λ r. ⌜ (r ≡ setOf 64 (λ later. has places later && not (has (twinsOf (countsOf (now (asked .entry))) (take choice (now (plan .entry))) (now (rows .entry)) (now (sums .entry)) (now (fills .entry)) place) later))) × (now (plan .exit) ≡ now (plan .entry)) ⌝ }
+{
+    let twins = twins_of(counts_of(asked), rows, choice, plan, sums, fills, place);
+    without(places, twins)
+}
+
+// What is still open of a choice's places once it has stood at one and met no plan there: not its twins. Near the end no twins are looked for.
+pub fn pass_over(
+    asked: &[usize; 6],
+    rows: &&[u64],
+    choice: usize,
+    plan: &mut &mut [u8],
+    place: usize,
+    places: u64,
+    sums: &[usize; 24],
+    fills: &[usize; 24],
+) -> u64
+    ensures { λ r. ⌜ (r ≡ stillOpen (countsOf (now (asked .entry))) choice (take choice (now (now (plan .entry)))) (now (now (rows .entry))) (now (sums .entry)) (now (fills .entry)) place true places) × (now (now (plan .exit)) ≡ now (now (plan .entry))) ⌝ }
+{
+    if near_end(asked[CHOICES], choice) {
+        return places;
+    }
+    without_twins(asked, *rows, choice, *plan, place, places, sums, fills)
 }

@@ -136,7 +136,7 @@ weight-same tables before table choice h = go (ltb table 4 && ltb choice 64) ref
     go false t = refl
 
 -- ones for table 0: the array is as long as it was
-pub ones-length : (before tables : List ℕ) → length before ≡ 52516 → tables ≡ withOnes before → length tables ≡ 52516
+pub ones-length : (before tables : List ℕ) → length before ≡ 69416 → tables ≡ withOnes before → length tables ≡ 69416
 unfolding withOnes
 ones-length before tables s e = ap (λ (x : List ℕ). length x) e ∙ written-length 52260 (λ x. 1) before 64 ∙ s
 
@@ -148,7 +148,7 @@ ones-out tables table choice h =
     written-out 52260 (λ choice. 1) tables 64 (52260 + table * 64 + choice) (λ l hl z. omega arith)
 
 -- and in table 0 no choice weighs more than 1
-pub ones-in : (tables : List ℕ) (choice : ℕ) → length tables ≡ 52516 → weightAt (withOnes tables) 0 choice ≤ 1
+pub ones-in : (tables : List ℕ) (choice : ℕ) → length tables ≡ 69416 → weightAt (withOnes tables) 0 choice ≤ 1
 unfolding withOnes weightAt
 ones-in tables choice e = go (ltb choice 64) refl
   where
@@ -190,7 +190,7 @@ module _ (counts : Counts) (maxs before : List ℕ) (table : ℕ) (c : counts .c
       weight-same tables before other choice λ o i. k .outside (52260 + other * 64 + choice) (λ a b. omega arith)
 
   -- the row after the last choice
-  pub filling-last : length before ≡ 52516
+  pub filling-last : length before ≡ 69416
       → Filling counts maxs before table (counts .choices) (written (counts .choosers + 1) ((table * 65 + counts .choices) * 201) lastEntry before)
   filling-last s =
       let at = (table * 65 + counts .choices) * 201 in
@@ -269,7 +269,7 @@ module _ (counts : Counts) (maxs before : List ℕ) (table : ℕ) (c : counts .c
       }
 
 -- the same, of what the code left
-pub filled-last : (counts : Counts) (maxs before after : List ℕ) (table : ℕ) → counts .choices ≤ 64 → counts .choosers ≤ 200 → table < 4 → length before ≡ 52516
+pub filled-last : (counts : Counts) (maxs before after : List ℕ) (table : ℕ) → counts .choices ≤ 64 → counts .choosers ≤ 200 → table < 4 → length before ≡ 69416
     → after ≡ written (counts .choosers + 1) ((table * 65 + counts .choices) * 201) lastEntry before
     → Filling counts maxs after table (counts .choices) after
 filled-last counts maxs before after table c h t s e =
@@ -277,7 +277,7 @@ filled-last counts maxs before after table c h t s e =
     (filling-here counts maxs before table c h t (counts .choices) (written (counts .choosers + 1) ((table * 65 + counts .choices) * 201) lastEntry before)
     (filling-last counts maxs before table c h t s))
 
-pub filled-rows : (counts : Counts) (maxs before tables after : List ℕ) (table from : ℕ) → counts .choices ≤ 64 → counts .choosers ≤ 200 → table < 4 → length before ≡ 52516
+pub filled-rows : (counts : Counts) (maxs before tables after : List ℕ) (table from : ℕ) → counts .choices ≤ 64 → counts .choosers ≤ 200 → table < 4 → length before ≡ 69416
     → tables ≡ written (counts .choosers + 1) ((table * 65 + counts .choices) * 201) lastEntry before → from ≡ 0
     → Filling counts maxs tables table from after → Filling counts maxs before table 0 after
 filled-rows counts maxs before tables after table from c h t s e z k =
@@ -294,7 +294,7 @@ filled-row counts maxs before table past from tables after weight most c h t p i
 -- the tables one after the other
 module _ (counts : Counts) (maxs : List ℕ) where
   -- none is filled yet
-  pub first-none : (before : List ℕ) → length before ≡ 52516 → FirstFilled counts maxs before 0 before
+  pub first-none : (before : List ℕ) → length before ≡ 69416 → FirstFilled counts maxs before 0 before
   first-none before s =
       record {
         size = s;
@@ -368,7 +368,7 @@ module _ (counts : Counts) (maxs : List ℕ) where
   pub fills-other-length : (before : List ℕ) → counts .choices ≤ 64 → counts .choosers ≤ 200 → (length maxs ≡ counts .choices → ⊥) → Fills counts maxs before before
   fills-other-length before c h n = fills-not before (not-other-length c h n)
 
-  pub fills-all : (before after : List ℕ) → counts .choices ≤ 64 → counts .choosers ≤ 200 → length maxs ≡ counts .choices → length before ≡ 52516
+  pub fills-all : (before after : List ℕ) → counts .choices ≤ 64 → counts .choosers ≤ 200 → length maxs ≡ counts .choices → length before ≡ 69416
       → FirstFilled counts maxs (withOnes before) 4 after → Fills counts maxs before after
   fills-all before after c h e s k =
       record {
@@ -403,7 +403,7 @@ module _ (counts : Counts) (maxs : List ℕ) where
   pub one-past : (table : ℕ) (before : List ℕ) → counts .choices ≤ 64 → counts .choosers ≤ 200 → length maxs ≡ counts .choices → 4 ≤ table → FillsOne counts table maxs before before
   one-past table before c h e t = one-not table before (rw (all-fit c h e, le-ltb table 4 t))
 
-  pub one-filled : (table : ℕ) (before after : List ℕ) → counts .choices ≤ 64 → counts .choosers ≤ 200 → length maxs ≡ counts .choices → table < 4 → length before ≡ 52516
+  pub one-filled : (table : ℕ) (before after : List ℕ) → counts .choices ≤ 64 → counts .choosers ≤ 200 → length maxs ≡ counts .choices → table < 4 → length before ≡ 69416
       → Filling counts maxs before table 0 after → FillsOne counts table maxs before after
   one-filled table before after c h e t s k =
       record {

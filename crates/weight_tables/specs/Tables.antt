@@ -23,7 +23,7 @@ weightAt tables table choice = cond (ltb table 4 && ltb choice 64) (getD tables 
 
 -- every entry that the day uses is the least weight by the weights that stand after the tables, and in table 0 no choice weighs more than 1
 pub record Filled (counts : Counts) (maxs tables : List ℕ) : Type 0 where
-  pub size : length tables ≡ 52516
+  pub size : length tables ≡ 69416
   pub entries : (table from lack : ℕ) → table < 4 → from ≤ counts .choices → lack ≤ counts .choosers
       → getD tables ((table * 65 + from) * 201 + lack) 0 ≡ leastOf (weightAt tables) counts maxs table from lack
   pub ones : (choice : ℕ) → weightAt tables 0 choice ≤ 1
@@ -59,14 +59,14 @@ withOnes tables = written 64 52260 (λ choice. 1) tables
 
 -- of one table the rows from a choice on are least weights by the weights before, and what stands outside that table is as before
 pub record Filling (counts : Counts) (maxs before : List ℕ) (table from : ℕ) (tables : List ℕ) : Type 0 where
-  pub size : length tables ≡ 52516
+  pub size : length tables ≡ 69416
   pub outside : (place : ℕ) → (table * 13065 ≤ place → place < table * 13065 + 13065 → ⊥) → getD tables place 0 ≡ getD before place 0
   pub rowsAfter : (first lack : ℕ) → from ≤ first → first ≤ counts .choices → lack ≤ counts .choosers
       → getD tables ((table * 65 + first) * 201 + lack) 0 ≡ leastOf (weightAt before) counts maxs table first lack
 
 -- so many tables are filled by the weights before, and the weights are as before
 pub record FirstFilled (counts : Counts) (maxs before : List ℕ) (count : ℕ) (tables : List ℕ) : Type 0 where
-  pub size : length tables ≡ 52516
+  pub size : length tables ≡ 69416
   pub entries : (table from lack : ℕ) → table < count → from ≤ counts .choices → lack ≤ counts .choosers
       → getD tables ((table * 65 + from) * 201 + lack) 0 ≡ leastOf (weightAt before) counts maxs table from lack
   pub weights : (table choice : ℕ) → weightAt tables table choice ≡ weightAt before table choice

@@ -5,7 +5,7 @@ ghost use Prim.Native.Nat.{_-_, _≤_};
 ghost use Rattle.weight_tables.specs.Tables.{entryAt};
 
 // The entry for a table, a first choice and a lack: 0 past the tables' shape.
-pub fn least_at(tables: &[u16; 52516], table: usize, from: usize, lack: usize) -> usize
+pub fn least_at(tables: &[u16; 69416], table: usize, from: usize, lack: usize) -> usize
     ensures { λ r. ⌜ (r ≡ entryAt (now (tables .entry)) table from lack) × (r ≤ 65535) ⌝ }
 {
     if 4 <= table {

@@ -14,14 +14,14 @@ ghost use Rattle.weight_tables.specs.Tables.{Fills, FillsOne, Filling, F
 const UNREACHED: u16 = 30000;
 
 // Room for the tables and their weights, all 0.
-pub fn no_tables() -> [u16; 52_516]
-    ensures { λ r. ⌜ r ≡ replicate 52516 0 ⌝ }
+pub fn no_tables() -> [u16; 69_416]
+    ensures { λ r. ⌜ r ≡ replicate 69416 0 ⌝ }
 {
-    [0u16; 52_516]
+    [0u16; 69_416]
 }
 
 // With no choice left a lack of 0 is filled, and no other.
-fn last_entry(lack: usize) -> u16
+pub fn last_entry(lack: usize) -> u16
     ensures { λ r. ⌜ r ≡ lastEntry lack ⌝ }
 {
     if lack == 0 {
@@ -31,7 +31,7 @@ fn last_entry(lack: usize) -> u16
 }
 
 // The smaller of an entry and another weight.
-fn smaller_entry(entry: u16, weight: usize) -> u16
+pub fn smaller_entry(entry: u16, weight: usize) -> u16
     ensures { λ r. ⌜ r ≡ min entry weight ⌝ }
 {
     if wide_word(entry) <= weight {
@@ -41,8 +41,8 @@ fn smaller_entry(entry: u16, weight: usize) -> u16
 }
 
 // The row after the last choice.
-fn fill_last(at: usize, entries: usize, tables: &mut [u16; 52516])
-    requires { ⌜ (at + entries ≤ 52516) × (length (now tables) ≡ 52516) ⌝ }
+fn fill_last(at: usize, entries: usize, tables: &mut [u16; 69416])
+    requires { ⌜ (at + entries ≤ 69416) × (length (now tables) ≡ 69416) ⌝ }
     ensures { λ r. ⌜ now (tables .exit) ≡ written entries at lastEntry (now (tables .entry)) ⌝ }
 {
     let mut lack = 0;
@@ -53,8 +53,8 @@ fn fill_last(at: usize, entries: usize, tables: &mut [u16; 52516])
 }
 
 // A choice's row from the row after it: each entry is the smaller of leaving the choice out and taking it.
-fn fill_row(at: usize, entries: usize, weight: usize, most: usize, tables: &mut [u16; 52516])
-    requires { ⌜ ((at + 201 + entries ≤ 52516) × (entries ≤ 201)) × ((weight ≤ 65535) × (length (now tables) ≡ 52516)) ⌝ }
+fn fill_row(at: usize, entries: usize, weight: usize, most: usize, tables: &mut [u16; 69416])
+    requires { ⌜ ((at + 201 + entries ≤ 69416) × (entries ≤ 201)) × ((weight ≤ 65535) × (length (now tables) ≡ 69416)) ⌝ }
     ensures { λ r. ⌜ now (tables .exit) ≡ written entries at (nextEntry (now (tables .entry)) at weight most) (now (tables .entry)) ⌝ }
 {
     let mut lack = 0;
@@ -67,9 +67,9 @@ fn fill_row(at: usize, entries: usize, weight: usize, most: usize, tables: &mut 
 }
 
 // One table by the weights that stand there, from its last row to its first.
-fn fill_table(counts: Counts, table: usize, maxs: &[u16], tables: &mut [u16; 52516])
+fn fill_table(counts: Counts, table: usize, maxs: &[u16], tables: &mut [u16; 69416])
     requires { ⌜ ((counts .choices ≤ 64) × (counts .choosers ≤ 200)) × ((table < 4) × (length (now maxs) ≡ counts .choices)) ⌝ }
-    requires { ⌜ length (now tables) ≡ 52516 ⌝ }
+    requires { ⌜ length (now tables) ≡ 69416 ⌝ }
     ensures { λ r. ⌜ Filling counts (now (maxs .entry)) (now (tables .entry)) table 0 (now (tables .exit)) ⌝ }
 {
     let mut from = counts.choices;
@@ -87,8 +87,8 @@ fn fill_table(counts: Counts, table: usize, maxs: &[u16], tables: &mut [u16; 525
 fn told(tables: &[u16]) {}
 
 // The four tables, one after the other, where each choice weighs 1 in table 0.
-fn fill_each(counts: Counts, maxs: &[u16], tables: &mut [u16; 52516])
-    requires { ⌜ ((counts .choices ≤ 64) × (counts .choosers ≤ 200)) × ((length (now maxs) ≡ counts .choices) × (length (now tables) ≡ 52516)) ⌝ }
+fn fill_each(counts: Counts, maxs: &[u16], tables: &mut [u16; 69416])
+    requires { ⌜ ((counts .choices ≤ 64) × (counts .choosers ≤ 200)) × ((length (now maxs) ≡ counts .choices) × (length (now tables) ≡ 69416)) ⌝ }
     ensures { λ r. ⌜ FirstFilled counts (now (maxs .entry)) (withOnes (now (tables .entry))) 4 (now (tables .exit)) ⌝ }
 {
     set_ones(tables);
@@ -100,7 +100,7 @@ fn fill_each(counts: Counts, maxs: &[u16], tables: &mut [u16; 52516])
 }
 
 // Fills the tables of a day that they hold, only the rows and entries that the day uses; of another day nothing is written.
-pub fn fill_tables(counts: Counts, maxs: &[u16], tables: &mut [u16; 52516])
+pub fn fill_tables(counts: Counts, maxs: &[u16], tables: &mut [u16; 69416])
     ensures { λ r. ⌜ Fills counts (now (maxs .entry)) (now (tables .entry)) (now (tables .exit)) ⌝ }
 {
     if 64 < counts.choices {
@@ -117,7 +117,7 @@ pub fn fill_tables(counts: Counts, maxs: &[u16], tables: &mut [u16; 52516])
 }
 
 // Fills one table of a day that the tables hold by the weights that stand there; of another day or table nothing is written.
-pub fn fill_one(counts: Counts, table: usize, maxs: &[u16], tables: &mut [u16; 52516])
+pub fn fill_one(counts: Counts, table: usize, maxs: &[u16], tables: &mut [u16; 69416])
     ensures { λ r. ⌜ FillsOne counts table (now (maxs .entry)) (now (tables .entry)) (now (tables .exit)) ⌝ }
 {
     if 64 < counts.choices {

@@ -12,7 +12,7 @@ pub fn wide_word(word: u16) -> usize
 }
 
 // A choice's weight in a table: 0 past the tables' shape.
-pub fn weight_at(tables: &[u16; 52516], table: usize, choice: usize) -> usize
+pub fn weight_at(tables: &[u16; 69416], table: usize, choice: usize) -> usize
     ensures { λ r. ⌜ (r ≡ weightAt (now (tables .entry)) table choice) × (r ≤ 65535) ⌝ }
 {
     if 4 <= table {
@@ -25,8 +25,8 @@ pub fn weight_at(tables: &[u16; 52516], table: usize, choice: usize) -> usize
 }
 
 // Each choice weighs 1 in table 0.
-pub(crate) fn set_ones(tables: &mut [u16; 52516])
-    requires { ⌜ length (now tables) ≡ 52516 ⌝ }
+pub(crate) fn set_ones(tables: &mut [u16; 69416])
+    requires { ⌜ length (now tables) ≡ 69416 ⌝ }
     ensures { λ r. ⌜ now (tables .exit) ≡ withOnes (now (tables .entry)) ⌝ }
 {
     let mut choice = 0;

@@ -12,7 +12,6 @@ use Rattle.count_rule.proofs.counts.least_counts.Tie as tie
 use Rattle.count_rule.proofs.counts.least_counts.Reads as reads
 use Rattle.count_rule.proofs.counts.least_counts.Lts as lts
 use Rattle.count_rule.proofs.counts.no_counts.Reads as no-counts-reads
-use Rattle.count_rule.proofs.counts.word_of.Reads as word-of-reads
 use Rattle.weight_tables.proofs.entry.least_at.Reads as least-at-reads
 
 abbrev Inv-loop : tie.InvT-loop
@@ -23,66 +22,63 @@ abbrev μ-loop : tie.MeasureT-loop
 μ-loop slots from lacks tables settled least₀ slot₀ least slot =
     slots - slot
 
--- src/counts.rt:69:21
+-- src/counts.rt:61:21
 no-counts-requires : tie.Need-no-counts-requires Inv-loop μ-loop
 no-counts-requires c κs = search needs
 
--- src/counts.rt:71:5
+-- src/counts.rt:63:5
 loop-holds : tie.Need-loop-holds Inv-loop μ-loop
 unfolding written
-loop-holds c = (omega arith, c .no-counts .ensures)
+loop-holds c =
+    (omega arith, c .no-counts .ensures)
 
--- src/counts.rt:72:46
+-- src/counts.rt:64:46
 mul-least-at : tie.Need-mul-least-at Inv-loop μ-loop
 mul-least-at c = search needs
 
--- src/counts.rt:72:46
+-- src/counts.rt:64:46
 element-copy-out-least-at : tie.Need-element-copy-out-least-at Inv-loop μ-loop
 element-copy-out-least-at c = search needs
 
--- src/counts.rt:72:13
+-- src/counts.rt:64:13
 least-at-requires : tie.Need-least-at-requires Inv-loop μ-loop
 least-at-requires c κs = search needs
 
--- src/counts.rt:73:23
+-- src/counts.rt:65:23
 mul-least : tie.Need-mul-least Inv-loop μ-loop
 mul-least c = search needs
 
--- src/counts.rt:73:23
+-- src/counts.rt:65:23
 element-copy-out-least : tie.Need-element-copy-out-least Inv-loop μ-loop
 element-copy-out-least c = search needs
 
--- src/counts.rt:73:39
-word-of-requires : tie.Need-word-of-requires Inv-loop μ-loop
-word-of-requires c κs = c .before .least-at .ensures .1
-
--- src/counts.rt:73:23
+-- src/counts.rt:65:23
 add-least : tie.Need-add-least Inv-loop μ-loop
 add-least c =
-    omega (arith, c .word-of .ensures, c .before .before .least-at .ensures .1, c .before .before .before .before .before .before .before .pre .1 _ (c .before .before .before .before .loop-test .taken))
+    omega (arith, c .before .least-at .ensures .1, c .before .before .before .before .before .before .pre .1 _ (c .before .before .before .loop-test .taken))
 
--- src/counts.rt:73:9
+-- src/counts.rt:65:9
 mul-least-2 : tie.Need-mul-least-2 Inv-loop μ-loop
 mul-least-2 c = search needs
 
--- src/counts.rt:73:9
+-- src/counts.rt:65:9
 array-write-least : tie.Need-array-write-least Inv-loop μ-loop
 array-write-least c = search needs
 
--- src/counts.rt:74:9
+-- src/counts.rt:66:9
 add-slot : tie.Need-add-slot Inv-loop μ-loop
 add-slot c = search needs
 
--- src/counts.rt:71:5
+-- src/counts.rt:63:5
 loop-less : tie.Need-loop-less Inv-loop μ-loop
 loop-less c = search needs
 
--- src/counts.rt:71:5
+-- src/counts.rt:63:5
 loop-again : tie.Need-loop-again Inv-loop μ-loop
 loop-again c =
-    (omega (arith, c .before .before .before .before .loop-test .taken), written-step _ _ _ _ _ (c .before .before .before .before .before .loop .inv .1) (fewest-in _ _ _ _ _ _ _ (c .before .before .least-at .ensures .0) (c .word-of .ensures)))
+    (omega (arith, c .before .before .before .loop-test .taken), written-step _ _ _ _ _ (c .before .before .before .before .loop .inv .1) (fewest-in _ _ _ _ _ _ (c .before .least-at .ensures .0)))
 
--- src/counts.rt:59:1
+-- src/counts.rt:51:1
 returns : tie.Need-returns Inv-loop μ-loop
 returns c =
     let e : c .before .loop .slot ≡ c .before .before .before .args .slots = omega (arith, c .loop-test .left, c .before .loop .inv .0) in rw e at (c .before .loop .inv .1)
@@ -100,7 +96,6 @@ least-counts-spec =
     least-at-requires
     mul-least
     element-copy-out-least
-    word-of-requires
     add-least
     mul-least-2
     array-write-least

@@ -1,51 +1,50 @@
 -- Each refusal leaves the domains, and the rest is narrowed.
-use borrow.Author.Tests.{not-true, not-false}
-use Rattle.count_rule.proofs.RuleLaws.{rule-many-choices, rule-many-choosers, rule-other-length, rule-many-slots, rule-no-limit, rule-fits}
+use Rattle.count_rule.proofs.RuleLaws.{rule-many-choices, rule-many-choosers, rule-other-length, rule-many-slots, rule-fits}
 use borrow.Author.Needs.{needs}
 use Rattle.count_rule.proofs.rule.narrow_by_counts.Statement.{statement}
 use Rattle.count_rule.proofs.rule.narrow_by_counts.Tie as tie
 use Rattle.count_rule.proofs.rule.narrow_by_counts.Reads as reads
 use Rattle.count_rule.proofs.rule.narrow_by_counts.Lts as lts
-use Rattle.count_rule.proofs.raises.ends_in_limit.Reads as ends-in-limit-reads
-use Rattle.count_rule.proofs.rule.narrow_fitting.Reads as narrow-fitting-reads
+use Rattle.count_rule.proofs.rooms.narrow_by_rooms.Reads as narrow-by-rooms-reads
+use Rattle.count_rule.proofs.wants.narrow_by_wants.Reads as narrow-by-wants-reads
+use Rattle.table_rule.proofs.figures.first_in.Reads as first-in-reads
 
--- src/rule.rt:170:9
+-- src/rule.rt:25:9
 returns : tie.Need-returns
 returns c =
-    rule-many-choices _ _ _ _ _ (c .if1 .taken)
+    rule-many-choices _ _ _ _ _ _ _ _ (c .if1 .taken)
 
--- src/rule.rt:173:9
+-- src/rule.rt:28:9
 returns-2 : tie.Need-returns-2
 returns-2 c =
-    rule-many-choosers _ _ _ _ _ (c .before .before .if1 .left) (c .if2 .taken)
+    rule-many-choosers _ _ _ _ _ _ _ _ (c .before .before .if1 .left) (c .if2 .taken)
 
--- src/rule.rt:176:9
+-- src/rule.rt:31:9
 returns-3 : tie.Need-returns-3
 returns-3 c =
-    rule-other-length _ _ _ _ _ (c .before .before .before .before .if1 .left) (c .before .before .if2 .left) (c .if3 .taken)
+    rule-other-length _ _ _ _ _ _ _ _ (c .before .before .before .before .if1 .left) (c .before .before .if2 .left) (c .if3 .taken)
 
--- src/rule.rt:179:9
+-- src/rule.rt:34:9
 returns-4 : tie.Need-returns-4
 returns-4 c =
-    rule-many-slots _ _ _ _ _ (c .before .before .before .before .before .before .if1 .left) (c .before .before .before .before .if2 .left) (c .before .before .if3 .left) (c .if4 .taken)
+    rule-many-slots _ _ _ _ _ _ _ _ (c .before .before .before .before .before .before .if1 .left) (c .before .before .before .before .if2 .left) (c .before .before .if3 .left) (c .if4 .taken)
 
--- src/rule.rt:181:9
-ends-in-limit-requires : tie.Need-ends-in-limit-requires
-ends-in-limit-requires c κs = search needs
+-- src/rule.rt:36:9
+first-in-requires : tie.Need-first-in-requires
+first-in-requires c κs = search needs
 
--- src/rule.rt:182:9
+-- src/rule.rt:37:5
+narrow-by-rooms-requires : tie.Need-narrow-by-rooms-requires
+narrow-by-rooms-requires c κs = search needs
+
+-- src/rule.rt:48:5
+narrow-by-wants-requires : tie.Need-narrow-by-wants-requires
+narrow-by-wants-requires c κs = search needs
+
+-- src/rule.rt:12:1
 returns-5 : tie.Need-returns-5
 returns-5 c =
-    rule-no-limit _ _ _ _ _ _ (c .before .before .before .before .before .before .before .before .if1 .left) (c .before .before .before .before .before .before .if2 .left) (c .before .before .before .before .if3 .left) (c .before .before .if4 .left) (c .before .ends-in-limit .ensures) (not-true _ (c .if5 .taken))
-
--- src/rule.rt:184:5
-narrow-fitting-requires : tie.Need-narrow-fitting-requires
-narrow-fitting-requires c κs = search needs
-
--- src/rule.rt:160:1
-returns-6 : tie.Need-returns-6
-returns-6 c =
-    rule-fits _ _ _ _ _ _ _ (c .before .before .before .before .before .before .before .before .before .before .if1 .left) (c .before .before .before .before .before .before .before .before .if2 .left) (c .before .before .before .before .before .before .if3 .left) (c .before .before .before .before .if4 .left) (c .before .before .before .ends-in-limit .ensures) (not-false _ (c .before .before .if5 .left)) (c .narrow-fitting .ensures)
+    rule-fits _ _ _ _ _ _ _ _ _ _ _ (c .before .before .before .before .before .before .before .before .before .before .before .if1 .left) (c .before .before .before .before .before .before .before .before .before .if2 .left) (c .before .before .before .before .before .before .before .if3 .left) (c .before .before .before .before .before .if4 .left) (c .before .before .before .before .first-in .ensures .0) (c .before .before .narrow-by-rooms .ensures) (c .narrow-by-wants .ensures)
 
 pub narrow-by-counts-spec : {M : Type 1} → statement M
 narrow-by-counts-spec =
@@ -55,7 +54,7 @@ narrow-by-counts-spec =
     returns-2
     returns-3
     returns-4
-    ends-in-limit-requires
-    returns-5
-    narrow-fitting-requires
-    returns-6)
+    first-in-requires
+    narrow-by-rooms-requires
+    narrow-by-wants-requires
+    returns-5)

@@ -12,11 +12,8 @@ counts-of-requires c κs = tt
 with-decided-requires : tie.Need-with-decided-requires
 with-decided-requires c κs = tt
 
-narrow-by-tables-requires : tie.Need-narrow-by-tables-requires
-narrow-by-tables-requires c κs = tt
-
-narrow-by-counts-requires : tie.Need-narrow-by-counts-requires
-narrow-by-counts-requires c κs = tt
+weigh-requires : tie.Need-weigh-requires
+weigh-requires c κs = tt
 
 all-alive-requires : tie.Need-all-alive-requires
 all-alive-requires c κs = tt
@@ -29,7 +26,7 @@ same-length c = search needs
 
 returns : tie.Need-returns
 returns c =
-    (looked-dead _ _ _ _ _ _ _ _ (c .before .before .before .before .before .before .before .before .before .before .before .counts-of .ensures) (c .before .before .before .before .before .before .before .before .with-decided .ensures) (c .before .before .before .before .before .before .narrow-by-tables .ensures) (c .before .before .before .before .narrow-by-counts .ensures) (c .before .before .all-alive .ensures) (not-true _ (c .before .if1 .taken)) (c .no-places .ensures), refl)
+    (looked-dead _ _ _ _ _ _ _ _ (c .before .before .before .before .before .before .before .before .before .counts-of .ensures) (c .before .before .before .before .before .before .with-decided .ensures) (c .before .before .before .before .weigh .ensures) (c .before .before .all-alive .ensures) (not-true _ (c .before .if1 .taken)) (c .no-places .ensures), refl)
 
 narrow-by-slots-requires : tie.Need-narrow-by-slots-requires
 narrow-by-slots-requires c κs = tt
@@ -45,7 +42,7 @@ same-length-2 c = search needs
 
 returns-2 : tie.Need-returns-2
 returns-2 c =
-    (looked-by _ _ _ _ _ _ _ _ (c .before .before .before .before .before .before .before .before .before .before .before .before .before .before .before .counts-of .ensures) (c .before .before .before .before .before .before .before .before .before .before .before .before .with-decided .ensures) (c .before .before .before .before .before .before .before .before .before .before .narrow-by-tables .ensures) (c .before .before .before .before .before .before .before .before .narrow-by-counts .ensures) (c .before .before .before .before .before .before .all-alive .ensures) (not-false _ (c .before .before .before .before .before .if1 .left)) (c .before .before .before .narrow-by-slots .ensures) (c .before .narrow-by-rows .ensures) (c .alive-or .ensures), refl)
+    (looked-by _ _ _ _ _ _ _ _ (c .before .before .before .before .before .before .before .before .before .before .before .before .before .counts-of .ensures) (c .before .before .before .before .before .before .before .before .before .before .with-decided .ensures) (c .before .before .before .before .before .before .before .before .weigh .ensures) (c .before .before .before .before .before .before .all-alive .ensures) (not-false _ (c .before .before .before .before .before .if1 .left)) (c .before .before .before .narrow-by-slots .ensures) (c .before .narrow-by-rows .ensures) (c .alive-or .ensures), refl)
 
 pub look-ahead-spec : {M : Type 1} → statement M
 look-ahead-spec =
@@ -53,8 +50,7 @@ look-ahead-spec =
     (tie.spec
     counts-of-requires
     with-decided-requires
-    narrow-by-tables-requires
-    narrow-by-counts-requires
+    weigh-requires
     all-alive-requires
     no-places-requires
     same-length

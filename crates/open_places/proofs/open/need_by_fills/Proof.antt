@@ -3,9 +3,8 @@ use mathlib.Core.Path.{_≡_}
 use Prim.Native.Nat.{_-_, _*_, _≤_}
 use native.Mathlib.Omega.{arith}
 use Rattle.weight_tables.specs.Tables.{entryAt}
-use Rattle.table_rule.specs.Rule.{needOf}
-use Rattle.table_rule.specs.Enough.{lacksAt}
-use Rattle.table_rule.proofs.RuleLaws.{need-start}
+use Rattle.table_rule.specs.Enough.{lacksAt, needOf}
+use Rattle.table_rule.proofs.EnoughPlaces.{need-start}
 use Rattle.open_places.proofs.SlotLaws.{need-more}
 use borrow.Author.Needs.{needs}
 use Rattle.open_places.proofs.open.need_by_fills.Statement.{statement}

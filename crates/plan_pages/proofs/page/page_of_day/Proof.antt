@@ -7,6 +7,7 @@ use Rattle.plan_pages.proofs.page.page_of_day.Tie as tie
 use Rattle.plan_pages.proofs.page.page_of_day.Reads as reads
 use Rattle.plan_pages.proofs.page.page_of_day.Lts as lts
 use Rattle.fitted_weights.proofs.fit.fit_weights.Reads as fit-weights-reads
+use Rattle.lightest_weights.proofs.fill.fill_lightest.Reads as fill-lightest-reads
 use Rattle.listing_starts.proofs.full.numbers_asked.Reads as numbers-asked-reads
 use Rattle.page_answers.proofs.page.told.Reads as told-reads
 use Rattle.place_sets.proofs.places.first_domains.Reads as first-domains-reads
@@ -24,6 +25,9 @@ fit-weights-requires c κs = tt
 
 fill-tables-requires : tie.Need-fill-tables-requires
 fill-tables-requires c κs = tt
+
+fill-lightest-requires : tie.Need-fill-lightest-requires
+fill-lightest-requires c κs = tt
 
 first-domains-requires : tie.Need-first-domains-requires
 first-domains-requires c κs = tt
@@ -51,9 +55,9 @@ same-length c = search needs
 
 returns : tie.Need-returns
 returns c =
-    let s = c .before .before .before .before .before .before .before .before .before .before .before .before .before .before .before .before .before .before .before .before .before .before .before .before .before in
+    let s = c .before .before .before .before .before .before .before .before .before .before .before .before .before .before .before .before .before .before .before .before .before .before .before .before .before .before .before in
     let w = walk-requires (s .args .counts) _ _ _ _ (s .args .first) (s .args .room) (s .args .budget) _ (s .pre) (c .before .before .before .before .before .before .before .before .before .before .numbers-asked .ensures) (c .before .before .before .before .before .before .before .before .before .before .before .first-rows .result .now) (s .fits .budget .fits) in
-    page-answers (s .args .counts) _ _ _ _ (s .args .first) (s .args .room) (s .args .budget) _ (s .pre) (c .before .before .before .before .before .before .before .before .before .before .numbers-asked .ensures) _ (c .before .before .before .before .before .before .before .before .before .before .before .before .before .before .before .fill-tables .ensures) (c .before .before .before .before .before .before .before .before .before .before .before .before .before .before .first-domains .ensures) (c .before .before .before .before .before .before .before .before .before .before .before .before .before .rows-in-order .ensures) (c .before .before .before .before .before .before .before .before .before .before .before .first-rows .ensures) (walked-run _ _ _ _ _ _ (is-ready _ _ _ (s .args .budget) 0 _ (w .0) (w .1) (w .2)) (c .before .before .before .walk-all .ensures)) (c .told .ensures)
+    page-answers (s .args .counts) _ _ _ _ (s .args .first) (s .args .room) (s .args .budget) _ (s .pre) (c .before .before .before .before .before .before .before .before .before .before .numbers-asked .ensures) _ (c .before .before .before .before .before .before .before .before .before .before .before .before .before .before .before .before .before .fill-tables .ensures) (c .before .before .before .before .before .before .before .before .before .before .before .before .before .before .before .fill-lightest .ensures) (c .before .before .before .before .before .before .before .before .before .before .before .before .before .before .first-domains .ensures) (c .before .before .before .before .before .before .before .before .before .before .before .before .before .rows-in-order .ensures) (c .before .before .before .before .before .before .before .before .before .before .before .first-rows .ensures) (walked-run _ _ _ _ _ _ (is-ready _ _ _ (s .args .budget) 0 _ (w .0) (w .1) (w .2)) (c .before .before .before .walk-all .ensures)) (c .told .ensures)
 
 pub page-of-day-spec : {M : Type 1} → statement M
 page-of-day-spec =
@@ -62,6 +66,7 @@ page-of-day-spec =
     no-tables-requires
     fit-weights-requires
     fill-tables-requires
+    fill-lightest-requires
     first-domains-requires
     rows-in-order-requires
     slice-aggregate-first-rows

@@ -1,5 +1,5 @@
 -- The walk: choices left and places left fall; each need is one law of WalkLaws.
-use mathlib.Core.Path.{refl, _∙_}
+use mathlib.Core.Path.{refl, sym, _∙_}
 use mathlib.Core.List.{[]}
 use Prim.Native.Nat.{_+_, _-_, _*_}
 use lib.ListN.{length}
@@ -7,7 +7,8 @@ use borrow.Author.Needs.{needs}
 use borrow.Author.Tests.{not-true, not-false}
 use Rattle.listing_nodes.proofs.Falls.{to-choice, to-next, next-choice}
 use Rattle.walk_steps.proofs.CallLaws.{to-open, open-place}
-use Rattle.walk_steps.proofs.StandLaws.{stood-as, left-as}
+use Rattle.walk_steps.proofs.StandLaws.{stood-as, left-as, passed-as}
+use Rattle.walk_steps.proofs.StillLaws.{still-met}
 use Rattle.walk_steps.proofs.WalkLaws.{so-far, walked-out, one-turn, walked-full, seen-near-here, seen-far-here, seen-requires, walked-seen, none-open, open-requires, walked-open, take-allowed, taken-requires, leave-allowed, walked-stopped, fewer, walked-last, rest-requires, walked-rest}
 use Prim.Native.Nat.{ℕ, _<_}
 use borrow.Fn.Kinds.{In}
@@ -25,9 +26,12 @@ use Rattle.listing_starts.proofs.full.list_full.Reads as list-full-reads
 use Rattle.look_ahead.proofs.look.look_ahead.Reads as look-ahead-reads
 use Rattle.look_ahead.proofs.see.near_end.Reads as near-end-reads
 use Rattle.page_answers.proofs.ready.goes_on.Reads as goes-on-reads
+use Rattle.walk_steps.proofs.next.next_after.Reads as next-after-reads
 use Rattle.walk_steps.proofs.next.open_next.Reads as open-next-reads
 use Rattle.walk_steps.proofs.next.rows_after.Reads as rows-after-reads
 use Rattle.walk_steps.proofs.stand.leave_place.Reads as leave-place-reads
+use Rattle.walk_steps.proofs.stand.none_met.Reads as none-met-reads
+use Rattle.walk_steps.proofs.stand.pass_over.Reads as pass-over-reads
 use Rattle.walk_steps.proofs.stand.take_place.Reads as take-place-reads
 use Rattle.plan_walk.proofs.walk.+walk_choice+walk_open+walk_place.{statement}
 use Rattle.plan_walk.proofs.walk.+walk_choice+walk_open+walk_place.Tie.{close}
@@ -64,7 +68,7 @@ abbrev walk-place-below : ℕ → In 18 walk-place-kinds.ps
 walk-place-below t =
     and 18 walk-place-kinds.ps (falls 18 walk-place-kinds.ps _<_ μ-walk-place t) walk-place.Pre
 
--- src/walk.rt:47:9
+-- src/walk.rt:43:9
 walk-choice-returns : (t : ℕ) → walk-choice-lts.Need-returns (
   list-full-reads.Asked,
   list-full-reads.Learnt,
@@ -80,7 +84,7 @@ walk-choice-returns : (t : ℕ) → walk-choice-lts.Need-returns (
 walk-choice-returns t c =
     walked-out _ _ (c .before .before .before .pre .1) (c .if1 .taken)
 
--- src/walk.rt:49:5
+-- src/walk.rt:45:5
 walk-choice-sub-turns : (t : ℕ) → walk-choice-lts.Need-sub-turns (
   list-full-reads.Asked,
   list-full-reads.Learnt,
@@ -96,7 +100,7 @@ walk-choice-sub-turns : (t : ℕ) → walk-choice-lts.Need-sub-turns (
 walk-choice-sub-turns t c =
     one-turn [] [] (c .before .before .before .pre .1) (c .if1 .left)
 
--- src/walk.rt:51:40
+-- src/walk.rt:47:40
 walk-choice-slice-aggregate-list-full : (t : ℕ) → walk-choice-lts.Need-slice-aggregate-list-full (
   list-full-reads.Asked,
   list-full-reads.Learnt,
@@ -112,7 +116,7 @@ walk-choice-slice-aggregate-list-full : (t : ℕ) → walk-choice-lts.Need-slice
 walk-choice-slice-aggregate-list-full t c =
     search needs
 
--- src/walk.rt:51:9
+-- src/walk.rt:47:9
 walk-choice-list-full-requires : (t : ℕ) → walk-choice-lts.Need-list-full-requires (
   list-full-reads.Asked,
   list-full-reads.Learnt,
@@ -128,7 +132,7 @@ walk-choice-list-full-requires : (t : ℕ) → walk-choice-lts.Need-list-full-re
 walk-choice-list-full-requires t c κs =
     tt
 
--- src/walk.rt:52:9
+-- src/walk.rt:48:9
 walk-choice-goes-on-requires : (t : ℕ) → walk-choice-lts.Need-goes-on-requires (
   list-full-reads.Asked,
   list-full-reads.Learnt,
@@ -144,7 +148,7 @@ walk-choice-goes-on-requires : (t : ℕ) → walk-choice-lts.Need-goes-on-requir
 walk-choice-goes-on-requires t c κs =
     tt
 
--- src/walk.rt:52:9
+-- src/walk.rt:48:9
 walk-choice-same-length : (t : ℕ) → walk-choice-lts.Need-same-length (
   list-full-reads.Asked,
   list-full-reads.Learnt,
@@ -160,7 +164,7 @@ walk-choice-same-length : (t : ℕ) → walk-choice-lts.Need-same-length (
 walk-choice-same-length t c =
     c .before .before .before .before .list-full .kept .1 .1 .1 .1 .1 .0
 
--- src/walk.rt:52:9
+-- src/walk.rt:48:9
 walk-choice-returns-2 : (t : ℕ) → walk-choice-lts.Need-returns-2 (
   list-full-reads.Asked,
   list-full-reads.Learnt,
@@ -177,7 +181,7 @@ walk-choice-returns-2 t c =
     let p = c .before .before .before .before .list-full .ensures in
     walked-full _ _ (c .before .before .before .before .before .before .before .before .before .before .before .before .before .before .pre .1) (c .before .before .before .before .before .before .before .before .before .before .before .if1 .left) (c .before .before .before .before .before .before .before .before .before .before .if2 .taken) (p .2) (p .0) (p .1) (c .goes-on .ensures)
 
--- src/walk.rt:54:8
+-- src/walk.rt:50:8
 walk-choice-near-end-requires : (t : ℕ) → walk-choice-lts.Need-near-end-requires (
   list-full-reads.Asked,
   list-full-reads.Learnt,
@@ -193,7 +197,7 @@ walk-choice-near-end-requires : (t : ℕ) → walk-choice-lts.Need-near-end-requ
 walk-choice-near-end-requires t c κs =
     tt
 
--- src/walk.rt:55:9
+-- src/walk.rt:51:9
 walk-choice-walk-open-requires : (t : ℕ) → walk-choice-lts.Need-walk-open-requires (
   list-full-reads.Asked,
   list-full-reads.Learnt,
@@ -211,7 +215,7 @@ walk-choice-walk-open-requires t c κs =
     let l = s .pre .1 in
     (to-open t (length (s .args .mins .now .now)) (s .args .choice) (s .pre .0), seen-requires (s .args .tables .now) (s .args .domains .now) l (c .before .before .before .before .before .before .before .before .before .if1 .left) (c .before .before .before .before .before .before .before .before .if2 .left) (seen-near-here _ _ _ _ _ (so-far [] [] l) (l .shaped .plan-fits) (c .before .before .before .before .before .before .before .near-end .ensures) (c .before .before .before .before .before .before .if3 .taken)) refl)
 
--- src/walk.rt:55:9
+-- src/walk.rt:51:9
 walk-choice-same-length-2 : (t : ℕ) → walk-choice-lts.Need-same-length-2 (
   list-full-reads.Asked,
   list-full-reads.Learnt,
@@ -227,7 +231,7 @@ walk-choice-same-length-2 : (t : ℕ) → walk-choice-lts.Need-same-length-2 (
 walk-choice-same-length-2 t c =
     c .before .before .walk-open .kept .1 .1 .1 .1 .1 .1 .1 .1 .1 .1 .1 .1 .1 .0
 
--- src/walk.rt:55:9
+-- src/walk.rt:51:9
 walk-choice-returns-3 : (t : ℕ) → walk-choice-lts.Need-returns-3 (
   list-full-reads.Asked,
   list-full-reads.Learnt,
@@ -244,7 +248,7 @@ walk-choice-returns-3 t c =
     let l = c .before .before .before .before .before .before .before .before .before .before .before .before .before .before .before .pre .1 in
     walked-seen _ _ l (c .before .before .before .before .before .before .before .before .before .before .before .before .if1 .left) (c .before .before .before .before .before .before .before .before .before .before .before .if2 .left) (seen-near-here _ _ _ _ _ (so-far [] [] l) (l .shaped .plan-fits) (c .before .before .before .before .before .before .before .before .before .before .near-end .ensures) (c .before .before .before .before .before .before .before .before .before .if3 .taken)) refl (c .before .before .walk-open .ensures)
 
--- src/walk.rt:72:71
+-- src/walk.rt:68:71
 walk-choice-slice-aggregate-look-ahead : (t : ℕ) → walk-choice-lts.Need-slice-aggregate-look-ahead (
   list-full-reads.Asked,
   list-full-reads.Learnt,
@@ -260,7 +264,7 @@ walk-choice-slice-aggregate-look-ahead : (t : ℕ) → walk-choice-lts.Need-slic
 walk-choice-slice-aggregate-look-ahead t c =
     search needs
 
--- src/walk.rt:72:16
+-- src/walk.rt:68:16
 walk-choice-look-ahead-requires : (t : ℕ) → walk-choice-lts.Need-look-ahead-requires (
   list-full-reads.Asked,
   list-full-reads.Learnt,
@@ -276,7 +280,7 @@ walk-choice-look-ahead-requires : (t : ℕ) → walk-choice-lts.Need-look-ahead-
 walk-choice-look-ahead-requires t c κs =
     tt
 
--- src/walk.rt:73:5
+-- src/walk.rt:69:5
 walk-choice-walk-open-requires-2 : (t : ℕ) → walk-choice-lts.Need-walk-open-requires-2 (
   list-full-reads.Asked,
   list-full-reads.Learnt,
@@ -294,7 +298,7 @@ walk-choice-walk-open-requires-2 t c κs =
     let l = s .pre .1 in
     (to-open t (length (s .args .mins .now .now)) (s .args .choice) (s .pre .0), seen-requires (s .args .tables .now) (s .args .domains .now) l (c .before .before .before .before .before .before .before .before .before .before .before .before .before .before .before .if1 .left) (c .before .before .before .before .before .before .before .before .before .before .before .before .before .before .if2 .left) (seen-far-here _ _ _ _ _ (so-far [] [] l) (l .shaped .plan-fits) (c .before .before .before .before .before .before .before .before .before .before .before .before .before .near-end .ensures) (c .before .before .before .before .before .before .before .before .before .before .before .before .if3 .left) (c .before .before .before .before .before .before .before .look-ahead .ensures .0)) (c .before .before .before .before .before .before .before .look-ahead .ensures .1))
 
--- src/walk.rt:27:1
+-- src/walk.rt:23:1
 walk-choice-same-length-3 : (t : ℕ) → walk-choice-lts.Need-same-length-3 (
   list-full-reads.Asked,
   list-full-reads.Learnt,
@@ -310,7 +314,7 @@ walk-choice-same-length-3 : (t : ℕ) → walk-choice-lts.Need-same-length-3 (
 walk-choice-same-length-3 t c =
     c .before .before .walk-open2 .kept .1 .1 .1 .1 .1 .1 .1 .1 .1 .1 .1 .1 .1 .0
 
--- src/walk.rt:27:1
+-- src/walk.rt:23:1
 walk-choice-returns-4 : (t : ℕ) → walk-choice-lts.Need-returns-4 (
   list-full-reads.Asked,
   list-full-reads.Learnt,
@@ -327,7 +331,7 @@ walk-choice-returns-4 t c =
     let l = c .before .before .before .before .before .before .before .before .before .before .before .before .before .before .before .before .before .before .before .before .before .pre .1 in
     walked-seen _ _ l (c .before .before .before .before .before .before .before .before .before .before .before .before .before .before .before .before .before .before .if1 .left) (c .before .before .before .before .before .before .before .before .before .before .before .before .before .before .before .before .before .if2 .left) (seen-far-here _ _ _ _ _ (so-far [] [] l) (l .shaped .plan-fits) (c .before .before .before .before .before .before .before .before .before .before .before .before .before .before .before .before .near-end .ensures) (c .before .before .before .before .before .before .before .before .before .before .before .before .before .before .before .if3 .left) (c .before .before .before .before .before .before .before .before .before .before .look-ahead .ensures .0)) (c .before .before .before .before .before .before .before .before .before .before .look-ahead .ensures .1) (c .before .before .walk-open2 .ensures)
 
--- src/walk.rt:119:9
+-- src/walk.rt:115:9
 walk-open-slice-aggregate-open-next : (t : ℕ) → walk-open-lts.Need-slice-aggregate-open-next (
   open-next-reads.Asked,
   open-next-reads.Learnt,
@@ -339,7 +343,7 @@ walk-open-slice-aggregate-open-next : (t : ℕ) → walk-open-lts.Need-slice-agg
 walk-open-slice-aggregate-open-next t c =
     search needs
 
--- src/walk.rt:111:9
+-- src/walk.rt:107:9
 walk-open-open-next-requires : (t : ℕ) → walk-open-lts.Need-open-next-requires (
   open-next-reads.Asked,
   open-next-reads.Learnt,
@@ -351,7 +355,7 @@ walk-open-open-next-requires : (t : ℕ) → walk-open-lts.Need-open-next-requir
 walk-open-open-next-requires t c κs =
     tt
 
--- src/walk.rt:125:9
+-- src/walk.rt:121:9
 walk-open-returns : (t : ℕ) → walk-open-lts.Need-returns (
   open-next-reads.Asked,
   open-next-reads.Learnt,
@@ -364,7 +368,7 @@ walk-open-returns t c =
     let o = c .before .before .open-next .ensures in
     none-open _ _ (c .before .before .before .before .before .before .before .before .before .before .before .pre .1) (o .0) (o .1 .1 .0) (o .1 .1 .1 .0) (o .1 .1 .1 .1) (c .if1 .taken)
 
--- src/walk.rt:127:17
+-- src/walk.rt:123:17
 walk-open-rows-after-requires : (t : ℕ) → walk-open-lts.Need-rows-after-requires (
   open-next-reads.Asked,
   open-next-reads.Learnt,
@@ -376,7 +380,7 @@ walk-open-rows-after-requires : (t : ℕ) → walk-open-lts.Need-rows-after-requ
 walk-open-rows-after-requires t c κs =
     tt
 
--- src/walk.rt:128:5
+-- src/walk.rt:124:5
 walk-open-walk-place-requires : (t : ℕ) → walk-open-lts.Need-walk-place-requires (
   open-next-reads.Asked,
   open-next-reads.Learnt,
@@ -392,7 +396,7 @@ walk-open-walk-place-requires t c κs =
     let r = open-requires (s .args .tables .now) (s .args .domains .now) l (o .0) (o .1 .1 .0) (o .1 .1 .1 .0) (o .1 .1 .1 .1) (c .before .before .before .before .before .before .before .rows-after .ensures) (c .before .before .before .before .before .before .before .before .before .if1 .left) in
     (open-place t (length (s .args .mins .now .now)) (s .args .choice) _ _ (s .pre .0) (r .1 .few) (l .shaped .few-slots), r)
 
--- src/walk.rt:92:1
+-- src/walk.rt:88:1
 walk-open-same-length : (t : ℕ) → walk-open-lts.Need-same-length (
   open-next-reads.Asked,
   open-next-reads.Learnt,
@@ -404,7 +408,7 @@ walk-open-same-length : (t : ℕ) → walk-open-lts.Need-same-length (
 walk-open-same-length t c =
     c .before .before .walk-place .kept .1 .1 .1 .1 .1 .1 .1 .1 .1 .1 .1 .1 .1 .1 .1 .0
 
--- src/walk.rt:92:1
+-- src/walk.rt:88:1
 walk-open-returns-2 : (t : ℕ) → walk-open-lts.Need-returns-2 (
   open-next-reads.Asked,
   open-next-reads.Learnt,
@@ -417,7 +421,7 @@ walk-open-returns-2 t c =
     let o = c .before .before .before .before .before .before .before .before .before .before .before .before .before .before .open-next .ensures in
     walked-open _ _ (c .before .before .before .before .before .before .before .before .before .before .before .before .before .before .before .before .before .before .before .before .before .before .before .pre .1) (o .0) (o .1 .1 .0) (o .1 .1 .1 .0) (o .1 .1 .1 .1) (c .before .before .before .before .before .before .before .before .before .before .rows-after .ensures) (c .before .before .walk-place .ensures)
 
--- src/walk.rt:170:9
+-- src/walk.rt:167:17
 walk-place-take-place-requires : (t : ℕ) → walk-place-lts.Need-take-place-requires (
   take-place-reads.Asked,
   take-place-reads.Learnt,
@@ -425,13 +429,19 @@ walk-place-take-place-requires : (t : ℕ) → walk-place-lts.Need-take-place-re
   walk-choice.Post,
   leave-place-reads.Asked,
   leave-place-reads.Learnt,
+  none-met-reads.Asked,
+  none-met-reads.Learnt,
   walk-place-below t,
   walk-place.Post,
+  pass-over-reads.Asked,
+  pass-over-reads.Learnt,
+  next-after-reads.Asked,
+  next-after-reads.Learnt,
 ) (walk-place-at t) walk-place.Post
 walk-place-take-place-requires t c κs =
     tt
 
--- src/walk.rt:179:9
+-- src/walk.rt:177:9
 walk-place-add-walk-choice : (t : ℕ) → walk-place-lts.Need-add-walk-choice (
   take-place-reads.Asked,
   take-place-reads.Learnt,
@@ -439,14 +449,20 @@ walk-place-add-walk-choice : (t : ℕ) → walk-place-lts.Need-add-walk-choice (
   walk-choice.Post,
   leave-place-reads.Asked,
   leave-place-reads.Learnt,
+  none-met-reads.Asked,
+  none-met-reads.Learnt,
   walk-place-below t,
   walk-place.Post,
+  pass-over-reads.Asked,
+  pass-over-reads.Learnt,
+  next-after-reads.Asked,
+  next-after-reads.Learnt,
 ) (walk-place-at t) walk-place.Post
 walk-place-add-walk-choice t c =
-    let w = c .before .before .before .before .before .pre .1 .0 .walks in
+    let w = c .before .before .before .before .before .before .pre .1 .0 .walks in
     record { fits = next-choice _ _ (w .within) (w .few-choices) }
 
--- src/walk.rt:171:9
+-- src/walk.rt:169:17
 walk-place-walk-choice-requires : (t : ℕ) → walk-place-lts.Need-walk-choice-requires (
   take-place-reads.Asked,
   take-place-reads.Learnt,
@@ -454,18 +470,24 @@ walk-place-walk-choice-requires : (t : ℕ) → walk-place-lts.Need-walk-choice-
   walk-choice.Post,
   leave-place-reads.Asked,
   leave-place-reads.Learnt,
+  none-met-reads.Asked,
+  none-met-reads.Learnt,
   walk-place-below t,
   walk-place.Post,
+  pass-over-reads.Asked,
+  pass-over-reads.Learnt,
+  next-after-reads.Asked,
+  next-after-reads.Learnt,
 ) (walk-place-at t) walk-place.Post
 walk-place-walk-choice-requires t c κs =
-    let s = c .before .before .before .before .before .before .before .before .before .before .before in
-    let l = c .before .before .before .before .before .before .before .before .before .before .before .pre .1 .0 in
-    let o = c .before .before .before .before .before .before .before .before .before .before .before .pre .1 .1 in
+    let s = c .before .before .before .before .before .before .before .before .before .before .before .before in
+    let l = s .pre .1 .0 in
+    let o = s .pre .1 .1 in
     let t₁ = c .before .before .before .before .before .before .take-place .ensures in
     let g = stood-as t₁ (take-allowed _ _ _ [] [] l o) in
     (to-choice t (length (s .args .mins .now .now)) (s .args .choice) (s .args .left) (s .pre .0) (l .walks .within) (o .some), taken-requires _ _ _ [] [] l o (g .0) (g .1) (g .2) (g .3))
 
--- src/walk.rt:187:9
+-- src/walk.rt:185:16
 walk-place-leave-place-requires : (t : ℕ) → walk-place-lts.Need-leave-place-requires (
   take-place-reads.Asked,
   take-place-reads.Learnt,
@@ -473,13 +495,19 @@ walk-place-leave-place-requires : (t : ℕ) → walk-place-lts.Need-leave-place-
   walk-choice.Post,
   leave-place-reads.Asked,
   leave-place-reads.Learnt,
+  none-met-reads.Asked,
+  none-met-reads.Learnt,
   walk-place-below t,
   walk-place.Post,
+  pass-over-reads.Asked,
+  pass-over-reads.Learnt,
+  next-after-reads.Asked,
+  next-after-reads.Learnt,
 ) (walk-place-at t) walk-place.Post
 walk-place-leave-place-requires t c κs =
     tt
 
--- src/walk.rt:189:9
+-- src/walk.rt:187:9
 walk-place-same-length : (t : ℕ) → walk-place-lts.Need-same-length (
   take-place-reads.Asked,
   take-place-reads.Learnt,
@@ -487,13 +515,19 @@ walk-place-same-length : (t : ℕ) → walk-place-lts.Need-same-length (
   walk-choice.Post,
   leave-place-reads.Asked,
   leave-place-reads.Learnt,
+  none-met-reads.Asked,
+  none-met-reads.Learnt,
   walk-place-below t,
   walk-place.Post,
+  pass-over-reads.Asked,
+  pass-over-reads.Learnt,
+  next-after-reads.Asked,
+  next-after-reads.Learnt,
 ) (walk-place-at t) walk-place.Post
 walk-place-same-length t c =
     c .before .before .before .before .before .before .walk-choice .kept .1 .1 .1 .1 .1 .1 .1 .1 .1 .1 .1 .1 .1 .0
 
--- src/walk.rt:189:9
+-- src/walk.rt:187:9
 walk-place-returns : (t : ℕ) → walk-place-lts.Need-returns (
   take-place-reads.Asked,
   take-place-reads.Learnt,
@@ -501,18 +535,45 @@ walk-place-returns : (t : ℕ) → walk-place-lts.Need-returns (
   walk-choice.Post,
   leave-place-reads.Asked,
   leave-place-reads.Learnt,
+  none-met-reads.Asked,
+  none-met-reads.Learnt,
   walk-place-below t,
   walk-place.Post,
+  pass-over-reads.Asked,
+  pass-over-reads.Learnt,
+  next-after-reads.Asked,
+  next-after-reads.Learnt,
 ) (walk-place-at t) walk-place.Post
 walk-place-returns t c =
-    let l = c .before .before .before .before .before .before .before .before .before .before .before .before .before .before .before .before .before .before .pre .1 .0 in
-    let o = c .before .before .before .before .before .before .before .before .before .before .before .before .before .before .before .before .before .before .pre .1 .1 in
+    let s = c .before .before .before .before .before .before .before .before .before .before .before .before .before .before .before .before .before .before .before in
+    let l = s .pre .1 .0 in
+    let o = s .pre .1 .1 in
     let t₁ = c .before .before .before .before .before .before .before .before .before .before .before .before .before .take-place .ensures in
     let g = stood-as t₁ (take-allowed _ _ _ [] [] l o) in
     let v = left-as t₁ (c .before .leave-place .ensures) (leave-allowed _ _ _ [] [] l o) in
-    walked-stopped _ _ _ _ _ l o (g .0) (g .1) (g .2) (g .3) (c .before .before .before .before .before .before .walk-choice .ensures) (v .0) (v .1) (not-true _ (c .if1 .taken))
+    walked-stopped _ _ _ _ _ l o (g .0) (g .1) (g .2) (g .3) (c .before .before .before .before .before .before .walk-choice .ensures) refl (v .0) (v .1) (not-true _ (c .if1 .taken))
 
--- src/walk.rt:192:9
+-- src/walk.rt:189:9
+walk-place-none-met-requires : (t : ℕ) → walk-place-lts.Need-none-met-requires (
+  take-place-reads.Asked,
+  take-place-reads.Learnt,
+  walk-choice-below t,
+  walk-choice.Post,
+  leave-place-reads.Asked,
+  leave-place-reads.Learnt,
+  none-met-reads.Asked,
+  none-met-reads.Learnt,
+  walk-place-below t,
+  walk-place.Post,
+  pass-over-reads.Asked,
+  pass-over-reads.Learnt,
+  next-after-reads.Asked,
+  next-after-reads.Learnt,
+) (walk-place-at t) walk-place.Post
+walk-place-none-met-requires t c κs =
+    tt
+
+-- src/walk.rt:191:13
 walk-place-same-length-2 : (t : ℕ) → walk-place-lts.Need-same-length-2 (
   take-place-reads.Asked,
   take-place-reads.Learnt,
@@ -520,13 +581,19 @@ walk-place-same-length-2 : (t : ℕ) → walk-place-lts.Need-same-length-2 (
   walk-choice.Post,
   leave-place-reads.Asked,
   leave-place-reads.Learnt,
+  none-met-reads.Asked,
+  none-met-reads.Learnt,
   walk-place-below t,
   walk-place.Post,
+  pass-over-reads.Asked,
+  pass-over-reads.Learnt,
+  next-after-reads.Asked,
+  next-after-reads.Learnt,
 ) (walk-place-at t) walk-place.Post
 walk-place-same-length-2 t c =
-    c .before .before .before .before .before .before .before .walk-choice .kept .1 .1 .1 .1 .1 .1 .1 .1 .1 .1 .1 .1 .1 .0
+    c .before .before .before .before .before .before .before .before .before .walk-choice .kept .1 .1 .1 .1 .1 .1 .1 .1 .1 .1 .1 .1 .1 .0
 
--- src/walk.rt:192:9
+-- src/walk.rt:191:13
 walk-place-returns-2 : (t : ℕ) → walk-place-lts.Need-returns-2 (
   take-place-reads.Asked,
   take-place-reads.Learnt,
@@ -534,18 +601,26 @@ walk-place-returns-2 : (t : ℕ) → walk-place-lts.Need-returns-2 (
   walk-choice.Post,
   leave-place-reads.Asked,
   leave-place-reads.Learnt,
+  none-met-reads.Asked,
+  none-met-reads.Learnt,
   walk-place-below t,
   walk-place.Post,
+  pass-over-reads.Asked,
+  pass-over-reads.Learnt,
+  next-after-reads.Asked,
+  next-after-reads.Learnt,
 ) (walk-place-at t) walk-place.Post
 walk-place-returns-2 t c =
-    let l = c .before .before .before .before .before .before .before .before .before .before .before .before .before .before .before .before .before .before .before .pre .1 .0 in
-    let o = c .before .before .before .before .before .before .before .before .before .before .before .before .before .before .before .before .before .before .before .pre .1 .1 in
-    let t₁ = c .before .before .before .before .before .before .before .before .before .before .before .before .before .before .take-place .ensures in
+    let s = c .before .before .before .before .before .before .before .before .before .before .before .before .before .before .before .before .before .before .before .before .before .before in
+    let l = s .pre .1 .0 in
+    let o = s .pre .1 .1 in
+    let t₁ = c .before .before .before .before .before .before .before .before .before .before .before .before .before .before .before .before .take-place .ensures in
     let g = stood-as t₁ (take-allowed _ _ _ [] [] l o) in
-    let v = left-as t₁ (c .before .before .leave-place .ensures) (leave-allowed _ _ _ [] [] l o) in
-    walked-last _ _ _ _ _ l o (g .0) (g .1) (g .2) (g .3) (c .before .before .before .before .before .before .before .walk-choice .ensures) (v .0) (v .1) (not-false _ (c .before .if1 .left)) (v .2) (c .if2 .taken)
+    let v = left-as t₁ (c .before .before .before .before .leave-place .ensures) (leave-allowed _ _ _ [] [] l o) in
+    let w = still-met _ _ _ _ _ _ _ _ (sym (c .before .before .none-met .ensures) ∙ not-true _ (c .before .if2 .taken)) in
+    walked-last _ _ _ _ _ l o (g .0) (g .1) (g .2) (g .3) (c .before .before .before .before .before .before .before .before .before .walk-choice .ensures) refl (v .0) (v .1) (not-false _ (c .before .before .before .if1 .left)) w (v .2) (c .if3 .taken)
 
--- src/walk.rt:194:5
+-- src/walk.rt:193:16
 walk-place-walk-place-requires : (t : ℕ) → walk-place-lts.Need-walk-place-requires (
   take-place-reads.Asked,
   take-place-reads.Learnt,
@@ -553,19 +628,27 @@ walk-place-walk-place-requires : (t : ℕ) → walk-place-lts.Need-walk-place-re
   walk-choice.Post,
   leave-place-reads.Asked,
   leave-place-reads.Learnt,
+  none-met-reads.Asked,
+  none-met-reads.Learnt,
   walk-place-below t,
   walk-place.Post,
+  pass-over-reads.Asked,
+  pass-over-reads.Learnt,
+  next-after-reads.Asked,
+  next-after-reads.Learnt,
 ) (walk-place-at t) walk-place.Post
 walk-place-walk-place-requires t c κs =
-    let s = c .before .before .before .before .before .before .before .before .before .before .before .before .before .before .before .before .before .before .before .before .before .before .before .before .before in
-    let l = c .before .before .before .before .before .before .before .before .before .before .before .before .before .before .before .before .before .before .before .before .before .before .before .before .before .pre .1 .0 in
-    let o = c .before .before .before .before .before .before .before .before .before .before .before .before .before .before .before .before .before .before .before .before .before .before .before .before .before .pre .1 .1 in
-    let t₁ = c .before .before .before .before .before .before .before .before .before .before .before .before .before .before .before .before .before .before .before .before .take-place .ensures in
+    let s = c .before .before .before .before .before .before .before .before .before .before .before .before .before .before .before .before .before .before .before .before .before .before .before .before .before .before .before .before in
+    let l = s .pre .1 .0 in
+    let o = s .pre .1 .1 in
+    let t₁ = c .before .before .before .before .before .before .before .before .before .before .before .before .before .before .before .before .before .before .before .before .before .before .take-place .ensures in
     let g = stood-as t₁ (take-allowed _ _ _ [] [] l o) in
-    let v = left-as t₁ (c .before .before .before .before .before .before .before .before .leave-place .ensures) (leave-allowed _ _ _ [] [] l o) in
-    (to-next t (length (s .args .mins .now .now)) (s .args .choice) (s .args .left) _ (s .pre .0) (fewer _ _ _ _ _ l o (g .0) (g .1) (g .2) (g .3) (c .before .before .before .before .before .before .before .before .before .before .before .before .before .walk-choice .ensures) (v .0) (v .1) (not-false _ (c .before .before .before .before .before .before .before .if1 .left)) (v .2)), rest-requires _ _ _ _ _ l o (g .0) (g .1) (g .2) (g .3) (c .before .before .before .before .before .before .before .before .before .before .before .before .before .walk-choice .ensures) (v .0) (v .1) (not-false _ (c .before .before .before .before .before .before .before .if1 .left)) (v .2) (c .before .before .before .before .before .before .before .before .before .before .before .before .before .walk-choice .kept .1 .1 .1 .1 .1 .1 .1 .1 .1 .1 .1 .1 .1 .0) (c .before .before .before .before .before .before .if2 .left))
+    let v = left-as t₁ (c .before .before .before .before .before .before .before .before .before .before .leave-place .ensures) (leave-allowed _ _ _ [] [] l o) in
+    let w = still-met _ _ _ _ _ _ _ _ (sym (c .before .before .before .before .before .before .before .before .none-met .ensures) ∙ not-true _ (c .before .before .before .before .before .before .before .if2 .taken)) in
+    let i = not-false _ (c .before .before .before .before .before .before .before .before .before .if1 .left) in
+    (to-next t (length (s .args .mins .now .now)) (s .args .choice) (s .args .left) _ (s .pre .0) (fewer _ _ _ _ _ l o (g .0) (g .1) (g .2) (g .3) (c .before .before .before .before .before .before .before .before .before .before .before .before .before .before .before .walk-choice .ensures) refl (v .0) (v .1) i w (v .2)), rest-requires _ _ _ _ _ l o (g .0) (g .1) (g .2) (g .3) (c .before .before .before .before .before .before .before .before .before .before .before .before .before .before .before .walk-choice .ensures) refl (v .0) (v .1) i w (v .2) (c .before .before .before .before .before .before .before .before .before .before .before .before .before .before .before .walk-choice .kept .1 .1 .1 .1 .1 .1 .1 .1 .1 .1 .1 .1 .1 .0) (c .before .before .before .before .before .before .if3 .left))
 
--- src/walk.rt:149:1
+-- src/walk.rt:193:9
 walk-place-same-length-3 : (t : ℕ) → walk-place-lts.Need-same-length-3 (
   take-place-reads.Asked,
   take-place-reads.Learnt,
@@ -573,13 +656,19 @@ walk-place-same-length-3 : (t : ℕ) → walk-place-lts.Need-same-length-3 (
   walk-choice.Post,
   leave-place-reads.Asked,
   leave-place-reads.Learnt,
+  none-met-reads.Asked,
+  none-met-reads.Learnt,
   walk-place-below t,
   walk-place.Post,
+  pass-over-reads.Asked,
+  pass-over-reads.Learnt,
+  next-after-reads.Asked,
+  next-after-reads.Learnt,
 ) (walk-place-at t) walk-place.Post
 walk-place-same-length-3 t c =
-    c .before .before .walk-place .kept .1 .1 .1 .1 .1 .1 .1 .1 .1 .1 .1 .1 .1 .1 .1 .0 ∙ c .before .before .before .before .before .before .before .before .before .before .before .before .before .before .before .before .walk-choice .kept .1 .1 .1 .1 .1 .1 .1 .1 .1 .1 .1 .1 .1 .0
+    c .before .before .walk-place .kept .1 .1 .1 .1 .1 .1 .1 .1 .1 .1 .1 .1 .1 .1 .1 .0 ∙ c .before .before .before .before .before .before .before .before .before .before .before .before .before .before .before .before .before .before .walk-choice .kept .1 .1 .1 .1 .1 .1 .1 .1 .1 .1 .1 .1 .1 .0
 
--- src/walk.rt:149:1
+-- src/walk.rt:193:9
 walk-place-returns-3 : (t : ℕ) → walk-place-lts.Need-returns-3 (
   take-place-reads.Asked,
   take-place-reads.Learnt,
@@ -587,16 +676,192 @@ walk-place-returns-3 : (t : ℕ) → walk-place-lts.Need-returns-3 (
   walk-choice.Post,
   leave-place-reads.Asked,
   leave-place-reads.Learnt,
+  none-met-reads.Asked,
+  none-met-reads.Learnt,
   walk-place-below t,
   walk-place.Post,
+  pass-over-reads.Asked,
+  pass-over-reads.Learnt,
+  next-after-reads.Asked,
+  next-after-reads.Learnt,
 ) (walk-place-at t) walk-place.Post
 walk-place-returns-3 t c =
-    let l = c .before .before .before .before .before .before .before .before .before .before .before .before .before .before .before .before .before .before .before .before .before .before .before .before .before .before .before .before .pre .1 .0 in
-    let o = c .before .before .before .before .before .before .before .before .before .before .before .before .before .before .before .before .before .before .before .before .before .before .before .before .before .before .before .before .pre .1 .1 in
-    let t₁ = c .before .before .before .before .before .before .before .before .before .before .before .before .before .before .before .before .before .before .before .before .before .before .before .take-place .ensures in
+    let s = c .before .before .before .before .before .before .before .before .before .before .before .before .before .before .before .before .before .before .before .before .before .before .before .before .before .before .before .before .before .before .before in
+    let l = s .pre .1 .0 in
+    let o = s .pre .1 .1 in
+    let t₁ = c .before .before .before .before .before .before .before .before .before .before .before .before .before .before .before .before .before .before .before .before .before .before .before .before .before .take-place .ensures in
     let g = stood-as t₁ (take-allowed _ _ _ [] [] l o) in
-    let v = left-as t₁ (c .before .before .before .before .before .before .before .before .before .before .before .leave-place .ensures) (leave-allowed _ _ _ [] [] l o) in
-    walked-rest _ _ _ _ _ l o (g .0) (g .1) (g .2) (g .3) (c .before .before .before .before .before .before .before .before .before .before .before .before .before .before .before .before .walk-choice .ensures) (v .0) (v .1) (not-false _ (c .before .before .before .before .before .before .before .before .before .before .if1 .left)) (v .2) (c .before .before .walk-place .ensures)
+    let v = left-as t₁ (c .before .before .before .before .before .before .before .before .before .before .before .before .before .leave-place .ensures) (leave-allowed _ _ _ [] [] l o) in
+    let w = still-met _ _ _ _ _ _ _ _ (sym (c .before .before .before .before .before .before .before .before .before .before .before .none-met .ensures) ∙ not-true _ (c .before .before .before .before .before .before .before .before .before .before .if2 .taken)) in
+    walked-rest _ _ _ _ _ l o (g .0) (g .1) (g .2) (g .3) (c .before .before .before .before .before .before .before .before .before .before .before .before .before .before .before .before .before .before .walk-choice .ensures) refl (v .0) (v .1) (not-false _ (c .before .before .before .before .before .before .before .before .before .before .before .before .if1 .left)) w (v .2) (c .before .before .walk-place .ensures)
+
+-- src/walk.rt:212:17
+walk-place-pass-over-requires : (t : ℕ) → walk-place-lts.Need-pass-over-requires (
+  take-place-reads.Asked,
+  take-place-reads.Learnt,
+  walk-choice-below t,
+  walk-choice.Post,
+  leave-place-reads.Asked,
+  leave-place-reads.Learnt,
+  none-met-reads.Asked,
+  none-met-reads.Learnt,
+  walk-place-below t,
+  walk-place.Post,
+  pass-over-reads.Asked,
+  pass-over-reads.Learnt,
+  next-after-reads.Asked,
+  next-after-reads.Learnt,
+) (walk-place-at t) walk-place.Post
+walk-place-pass-over-requires t c κs =
+    tt
+
+-- src/walk.rt:213:17
+walk-place-next-after-requires : (t : ℕ) → walk-place-lts.Need-next-after-requires (
+  take-place-reads.Asked,
+  take-place-reads.Learnt,
+  walk-choice-below t,
+  walk-choice.Post,
+  leave-place-reads.Asked,
+  leave-place-reads.Learnt,
+  none-met-reads.Asked,
+  none-met-reads.Learnt,
+  walk-place-below t,
+  walk-place.Post,
+  pass-over-reads.Asked,
+  pass-over-reads.Learnt,
+  next-after-reads.Asked,
+  next-after-reads.Learnt,
+) (walk-place-at t) walk-place.Post
+walk-place-next-after-requires t c κs =
+    tt
+
+-- src/walk.rt:215:9
+walk-place-same-length-4 : (t : ℕ) → walk-place-lts.Need-same-length-4 (
+  take-place-reads.Asked,
+  take-place-reads.Learnt,
+  walk-choice-below t,
+  walk-choice.Post,
+  leave-place-reads.Asked,
+  leave-place-reads.Learnt,
+  none-met-reads.Asked,
+  none-met-reads.Learnt,
+  walk-place-below t,
+  walk-place.Post,
+  pass-over-reads.Asked,
+  pass-over-reads.Learnt,
+  next-after-reads.Asked,
+  next-after-reads.Learnt,
+) (walk-place-at t) walk-place.Post
+walk-place-same-length-4 t c =
+    c .before .before .before .before .before .before .before .before .before .before .before .before .before .before .walk-choice .kept .1 .1 .1 .1 .1 .1 .1 .1 .1 .1 .1 .1 .1 .0
+
+-- src/walk.rt:215:9
+walk-place-returns-4 : (t : ℕ) → walk-place-lts.Need-returns-4 (
+  take-place-reads.Asked,
+  take-place-reads.Learnt,
+  walk-choice-below t,
+  walk-choice.Post,
+  leave-place-reads.Asked,
+  leave-place-reads.Learnt,
+  none-met-reads.Asked,
+  none-met-reads.Learnt,
+  walk-place-below t,
+  walk-place.Post,
+  pass-over-reads.Asked,
+  pass-over-reads.Learnt,
+  next-after-reads.Asked,
+  next-after-reads.Learnt,
+) (walk-place-at t) walk-place.Post
+walk-place-returns-4 t c =
+    let s = c .before .before .before .before .before .before .before .before .before .before .before .before .before .before .before .before .before .before .before .before .before .before .before .before .before .before .before in
+    let l = s .pre .1 .0 in
+    let o = s .pre .1 .1 in
+    let t₁ = c .before .before .before .before .before .before .before .before .before .before .before .before .before .before .before .before .before .before .before .before .before .take-place .ensures in
+    let g = stood-as t₁ (take-allowed _ _ _ [] [] l o) in
+    let v = left-as t₁ (c .before .before .before .before .before .before .before .before .before .leave-place .ensures) (leave-allowed _ _ _ [] [] l o) in
+    let q = c .before .before .pass-over .ensures in
+    let w = passed-as _ _ _ _ _ _ t₁ (leave-allowed _ _ _ [] [] l o) (sym (c .before .before .before .before .before .before .before .none-met .ensures) ∙ not-false _ (c .before .before .before .before .before .before .if2 .left)) (q .0) in
+    let h = c .before .next-after .ensures in
+    walked-last _ _ _ _ _ l o (g .0) (g .1) (g .2) (g .3) (c .before .before .before .before .before .before .before .before .before .before .before .before .before .before .walk-choice .ensures) (q .1) (v .0) (v .1) (not-false _ (c .before .before .before .before .before .before .before .before .if1 .left)) w h (c .if4 .taken)
+
+-- src/walk.rt:217:5
+walk-place-walk-place-requires-2 : (t : ℕ) → walk-place-lts.Need-walk-place-requires-2 (
+  take-place-reads.Asked,
+  take-place-reads.Learnt,
+  walk-choice-below t,
+  walk-choice.Post,
+  leave-place-reads.Asked,
+  leave-place-reads.Learnt,
+  none-met-reads.Asked,
+  none-met-reads.Learnt,
+  walk-place-below t,
+  walk-place.Post,
+  pass-over-reads.Asked,
+  pass-over-reads.Learnt,
+  next-after-reads.Asked,
+  next-after-reads.Learnt,
+) (walk-place-at t) walk-place.Post
+walk-place-walk-place-requires-2 t c κs =
+    let s = c .before .before .before .before .before .before .before .before .before .before .before .before .before .before .before .before .before .before .before .before .before .before .before .before .before .before .before .before .before .before .before .before .before in
+    let l = s .pre .1 .0 in
+    let o = s .pre .1 .1 in
+    let t₁ = c .before .before .before .before .before .before .before .before .before .before .before .before .before .before .before .before .before .before .before .before .before .before .before .before .before .before .before .take-place .ensures in
+    let g = stood-as t₁ (take-allowed _ _ _ [] [] l o) in
+    let v = left-as t₁ (c .before .before .before .before .before .before .before .before .before .before .before .before .before .before .before .leave-place .ensures) (leave-allowed _ _ _ [] [] l o) in
+    let q = c .before .before .before .before .before .before .before .before .pass-over .ensures in
+    let w = passed-as _ _ _ _ _ _ t₁ (leave-allowed _ _ _ [] [] l o) (sym (c .before .before .before .before .before .before .before .before .before .before .before .before .before .none-met .ensures) ∙ not-false _ (c .before .before .before .before .before .before .before .before .before .before .before .before .if2 .left)) (q .0) in
+    let h = c .before .before .before .before .before .before .before .next-after .ensures in
+    let i = not-false _ (c .before .before .before .before .before .before .before .before .before .before .before .before .before .before .if1 .left) in
+    (to-next t (length (s .args .mins .now .now)) (s .args .choice) (s .args .left) _ (s .pre .0) (fewer _ _ _ _ _ l o (g .0) (g .1) (g .2) (g .3) (c .before .before .before .before .before .before .before .before .before .before .before .before .before .before .before .before .before .before .before .before .walk-choice .ensures) (q .1) (v .0) (v .1) i w h), rest-requires _ _ _ _ _ l o (g .0) (g .1) (g .2) (g .3) (c .before .before .before .before .before .before .before .before .before .before .before .before .before .before .before .before .before .before .before .before .walk-choice .ensures) (q .1) (v .0) (v .1) i w h (c .before .before .before .before .before .before .before .before .before .before .before .before .before .before .before .before .before .before .before .before .walk-choice .kept .1 .1 .1 .1 .1 .1 .1 .1 .1 .1 .1 .1 .1 .0) (c .before .before .before .before .before .before .if4 .left))
+
+-- src/walk.rt:145:1
+walk-place-same-length-5 : (t : ℕ) → walk-place-lts.Need-same-length-5 (
+  take-place-reads.Asked,
+  take-place-reads.Learnt,
+  walk-choice-below t,
+  walk-choice.Post,
+  leave-place-reads.Asked,
+  leave-place-reads.Learnt,
+  none-met-reads.Asked,
+  none-met-reads.Learnt,
+  walk-place-below t,
+  walk-place.Post,
+  pass-over-reads.Asked,
+  pass-over-reads.Learnt,
+  next-after-reads.Asked,
+  next-after-reads.Learnt,
+) (walk-place-at t) walk-place.Post
+walk-place-same-length-5 t c =
+    c .before .before .walk-place2 .kept .1 .1 .1 .1 .1 .1 .1 .1 .1 .1 .1 .1 .1 .1 .1 .0 ∙ c .before .before .before .before .before .before .before .before .before .before .before .before .before .before .before .before .before .before .before .before .before .before .before .walk-choice .kept .1 .1 .1 .1 .1 .1 .1 .1 .1 .1 .1 .1 .1 .0
+
+-- src/walk.rt:145:1
+walk-place-returns-5 : (t : ℕ) → walk-place-lts.Need-returns-5 (
+  take-place-reads.Asked,
+  take-place-reads.Learnt,
+  walk-choice-below t,
+  walk-choice.Post,
+  leave-place-reads.Asked,
+  leave-place-reads.Learnt,
+  none-met-reads.Asked,
+  none-met-reads.Learnt,
+  walk-place-below t,
+  walk-place.Post,
+  pass-over-reads.Asked,
+  pass-over-reads.Learnt,
+  next-after-reads.Asked,
+  next-after-reads.Learnt,
+) (walk-place-at t) walk-place.Post
+walk-place-returns-5 t c =
+    let s = c .before .before .before .before .before .before .before .before .before .before .before .before .before .before .before .before .before .before .before .before .before .before .before .before .before .before .before .before .before .before .before .before .before .before .before .before in
+    let l = s .pre .1 .0 in
+    let o = s .pre .1 .1 in
+    let t₁ = c .before .before .before .before .before .before .before .before .before .before .before .before .before .before .before .before .before .before .before .before .before .before .before .before .before .before .before .before .before .before .take-place .ensures in
+    let g = stood-as t₁ (take-allowed _ _ _ [] [] l o) in
+    let v = left-as t₁ (c .before .before .before .before .before .before .before .before .before .before .before .before .before .before .before .before .before .before .leave-place .ensures) (leave-allowed _ _ _ [] [] l o) in
+    let q = c .before .before .before .before .before .before .before .before .before .before .before .pass-over .ensures in
+    let w = passed-as _ _ _ _ _ _ t₁ (leave-allowed _ _ _ [] [] l o) (sym (c .before .before .before .before .before .before .before .before .before .before .before .before .before .before .before .before .none-met .ensures) ∙ not-false _ (c .before .before .before .before .before .before .before .before .before .before .before .before .before .before .before .if2 .left)) (q .0) in
+    let h = c .before .before .before .before .before .before .before .before .before .before .next-after .ensures in
+    walked-rest _ _ _ _ _ l o (g .0) (g .1) (g .2) (g .3) (c .before .before .before .before .before .before .before .before .before .before .before .before .before .before .before .before .before .before .before .before .before .before .before .walk-choice .ensures) (q .1) (v .0) (v .1) (not-false _ (c .before .before .before .before .before .before .before .before .before .before .before .before .before .before .before .before .before .if1 .left)) w h (c .before .before .walk-place2 .ensures)
 
 pub +walk-choice+walk-open+walk-place-spec : {M : Type 1} → statement M
 +walk-choice+walk-open+walk-place-spec =
@@ -654,8 +919,14 @@ pub +walk-choice+walk-open+walk-place-spec : {M : Type 1} → statement M
       walk-choice.Post,
       leave-place-reads.Asked,
       leave-place-reads.Learnt,
+      none-met-reads.Asked,
+      none-met-reads.Learnt,
       walk-place-below t,
       walk-place.Post,
+      pass-over-reads.Asked,
+      pass-over-reads.Learnt,
+      next-after-reads.Asked,
+      next-after-reads.Learnt,
     )
     (walk-place-at t)
     walk-place.Post
@@ -665,8 +936,16 @@ pub +walk-choice+walk-open+walk-place-spec : {M : Type 1} → statement M
     (walk-place-leave-place-requires t)
     (walk-place-same-length t)
     (walk-place-returns t)
+    (walk-place-none-met-requires t)
     (walk-place-same-length-2 t)
     (walk-place-returns-2 t)
     (walk-place-walk-place-requires t)
     (walk-place-same-length-3 t)
     (walk-place-returns-3 t)
+    (walk-place-pass-over-requires t)
+    (walk-place-next-after-requires t)
+    (walk-place-same-length-4 t)
+    (walk-place-returns-4 t)
+    (walk-place-walk-place-requires-2 t)
+    (walk-place-same-length-5 t)
+    (walk-place-returns-5 t)

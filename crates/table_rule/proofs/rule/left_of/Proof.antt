@@ -18,12 +18,12 @@ add-if1 c = search needs
 -- src/rule.rt:136:9
 returns : tie.Need-returns
 returns c =
-    left-all _ _ _ _ _ _ _ _ _ _ (c .if1 .taken)
+    left-all _ _ _ _ _ _ _ _ _ _ _ _ (c .if1 .taken)
 
 -- src/rule.rt:139:9
 returns-2 : tie.Need-returns-2
 returns-2 c =
-    left-none _ _ _ _ _ _ _ _ _ _ (c .before .if1 .left) (c .if2 .taken)
+    left-none _ _ _ _ _ _ _ _ _ _ _ _ (c .before .if1 .left) (c .if2 .taken)
 
 -- src/rule.rt:141:5
 kept-slots-requires : tie.Need-kept-slots-requires
@@ -32,7 +32,7 @@ kept-slots-requires c κs = search needs
 -- src/rule.rt:120:1
 returns-3 : tie.Need-returns-3
 returns-3 c =
-    c .kept-slots .ensures ∙ left-some _ _ _ _ _ _ _ _ _ _ (c .before .before .if1 .left) (c .before .if2 .left)
+    c .kept-slots .ensures ∙ left-some _ _ _ _ _ _ _ _ _ _ _ _ (c .before .before .if1 .left) (c .before .if2 .left)
 
 pub left-of-spec : {M : Type 1} → statement M
 left-of-spec = tie.close (tie.spec add-if1 returns returns-2 kept-slots-requires returns-3)

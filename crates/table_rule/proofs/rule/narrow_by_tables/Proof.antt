@@ -1,41 +1,63 @@
--- Each refusal leaves the domains, and the rest is narrowed.
+-- Each refusal leaves the domains, and the rest is narrowed from the first free choice on.
 use Rattle.table_rule.proofs.RuleLaws.{rule-many-choices, rule-many-choosers, rule-other-length, rule-many-slots, rule-fits}
 use borrow.Author.Needs.{needs}
 use Rattle.table_rule.proofs.rule.narrow_by_tables.Statement.{statement}
 use Rattle.table_rule.proofs.rule.narrow_by_tables.Tie as tie
 use Rattle.table_rule.proofs.rule.narrow_by_tables.Reads as reads
 use Rattle.table_rule.proofs.rule.narrow_by_tables.Lts as lts
-use Rattle.table_rule.proofs.rule.narrow_fitting.Reads as narrow-fitting-reads
+use Rattle.table_rule.proofs.figures.first_in.Reads as first-in-reads
+use Rattle.table_rule.proofs.rule.narrow_each.Reads as narrow-each-reads
+use Rattle.table_rule.proofs.rule.told.Reads as told-reads
 
--- src/rule.rt:247:9
+-- src/rule.rt:333:9
 returns : tie.Need-returns
 returns c =
-    rule-many-choices _ _ _ _ _ (c .if1 .taken)
+    rule-many-choices _ _ _ _ _ _ _ _ _ (c .if1 .taken)
 
--- src/rule.rt:250:9
+-- src/rule.rt:336:9
 returns-2 : tie.Need-returns-2
 returns-2 c =
-    rule-many-choosers _ _ _ _ _ (c .before .before .if1 .left) (c .if2 .taken)
+    rule-many-choosers _ _ _ _ _ _ _ _ _ (c .before .before .if1 .left) (c .if2 .taken)
 
--- src/rule.rt:253:9
+-- src/rule.rt:339:9
 returns-3 : tie.Need-returns-3
 returns-3 c =
-    rule-other-length _ _ _ _ _ (c .before .before .before .before .if1 .left) (c .before .before .if2 .left) (c .if3 .taken)
+    rule-other-length _ _ _ _ _ _ _ _ _ (c .before .before .before .before .if1 .left) (c .before .before .if2 .left) (c .if3 .taken)
 
--- src/rule.rt:256:9
+-- src/rule.rt:342:9
 returns-4 : tie.Need-returns-4
 returns-4 c =
-    rule-many-slots _ _ _ _ _ (c .before .before .before .before .before .before .if1 .left) (c .before .before .before .before .if2 .left) (c .before .before .if3 .left) (c .if4 .taken)
+    rule-many-slots _ _ _ _ _ _ _ _ _ (c .before .before .before .before .before .before .if1 .left) (c .before .before .before .before .if2 .left) (c .before .before .if3 .left) (c .if4 .taken)
 
--- src/rule.rt:258:5
-narrow-fitting-requires : tie.Need-narrow-fitting-requires
-narrow-fitting-requires c κs = search needs
+-- src/rule.rt:344:5
+told-requires : tie.Need-told-requires
+told-requires c κs =
+    search needs
 
--- src/rule.rt:243:1
+-- src/rule.rt:345:9
+first-in-requires : tie.Need-first-in-requires
+first-in-requires c κs =
+    search needs
+
+-- src/rule.rt:346:5
+narrow-each-requires : tie.Need-narrow-each-requires
+narrow-each-requires c κs =
+    search needs
+
+-- src/rule.rt:321:1
 returns-5 : tie.Need-returns-5
 returns-5 c =
-    rule-fits _ _ _ _ _ _ (c .before .before .before .before .before .before .before .before .if1 .left) (c .before .before .before .before .before .before .if2 .left) (c .before .before .before .before .if3 .left) (c .before .before .if4 .left) (c .narrow-fitting .ensures)
+    rule-fits _ _ _ _ _ _ _ _ _ _ _ (c .before .before .before .before .before .before .before .before .before .before .before .before .if1 .left) (c .before .before .before .before .before .before .before .before .before .before .if2 .left) (c .before .before .before .before .before .before .before .before .if3 .left) (c .before .before .before .before .before .before .if4 .left) (c .before .before .first-in .ensures .0) (c .narrow-each .ensures)
 
 pub narrow-by-tables-spec : {M : Type 1} → statement M
 narrow-by-tables-spec =
-    tie.close (tie.spec returns returns-2 returns-3 returns-4 narrow-fitting-requires returns-5)
+    tie.close
+    (tie.spec
+    returns
+    returns-2
+    returns-3
+    returns-4
+    told-requires
+    first-in-requires
+    narrow-each-requires
+    returns-5)

@@ -5,6 +5,7 @@ use Prim.Native.Nat.{ℕ, _-_, _≤_}
 use native.Mathlib.Omega.{arith}
 use lib.ListN.{length}
 use Rattle.weight_tables.specs.Tables.{entryAt, weightAt}
+use Rattle.lightest_weights.specs.Lightest.{lightestAt}
 use Rattle.place_sets.proofs.DomainLaws.{each-length}
 use Rattle.table_rule.specs.Rule.{tablesBelow}
 use Rattle.table_rule.proofs.RuleLaws.{each-step}
@@ -16,11 +17,11 @@ use Rattle.table_rule.proofs.rule.narrow_each.Lts as lts
 use Rattle.table_rule.proofs.rule.narrow_once.Reads as narrow-once-reads
 
 abbrev Inv-loop : tie.InvT-loop
-Inv-loop counts maxs tables free from lacks domains₀ table₀ domains table =
-    ((table ≤ 4) × (length domains ≡ 64)) × (domains ≡ tablesBelow (entryAt tables) (weightAt tables) counts maxs free from lacks table domains₀)
+Inv-loop counts maxs tables free from lacks wants domains₀ table₀ domains table =
+    ((table ≤ 4) × (length domains ≡ 64)) × (domains ≡ tablesBelow (entryAt tables) (lightestAt tables) (weightAt tables) counts maxs free from lacks wants table domains₀)
 
 abbrev μ-loop : tie.MeasureT-loop
-μ-loop counts maxs tables free from lacks domains₀ table₀ domains table =
+μ-loop counts maxs tables free from lacks wants domains₀ table₀ domains table =
     4 - table
 
 -- src/rule.rt:284:5
@@ -45,7 +46,7 @@ loop-less c = search needs
 -- src/rule.rt:284:5
 loop-again : tie.Need-loop-again Inv-loop μ-loop
 loop-again c =
-    ((omega (arith, c .before .before .loop-test .taken), ap (λ (x : List ℕ). length x) (c .narrow-once .ensures) ∙ each-length _ _ _ ∙ c .before .before .before .loop .inv .0 .1), each-step _ _ _ _ _ _ _ _ _ _ _ (c .before .before .before .loop .inv .1) (c .narrow-once .ensures))
+    ((omega (arith, c .before .before .loop-test .taken), ap (λ (x : List ℕ). length x) (c .narrow-once .ensures) ∙ each-length _ _ _ ∙ c .before .before .before .loop .inv .0 .1), each-step _ _ _ _ _ _ _ _ _ _ _ _ _ (c .before .before .before .loop .inv .1) (c .narrow-once .ensures))
 
 -- src/rule.rt:271:1
 returns : tie.Need-returns Inv-loop μ-loop

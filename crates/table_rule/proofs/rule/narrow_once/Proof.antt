@@ -4,6 +4,7 @@ use Prim.Native.Nat.{_-_, _≤_}
 use native.Mathlib.Omega.{arith}
 use lib.ListN.{length, length-set}
 use Rattle.weight_tables.specs.Tables.{entryAt, weightAt}
+use Rattle.lightest_weights.specs.Lightest.{lightestAt}
 use Rattle.place_sets.specs.Domains.{eachBelow}
 use Rattle.table_rule.specs.Rule.{tableRule}
 use Rattle.table_rule.proofs.FigureLaws.{first-within}
@@ -19,11 +20,11 @@ use Rattle.table_rule.proofs.rule.next_domain.Reads as next-domain-read
 use Rattle.table_rule.proofs.rule.weigh_free.Reads as weigh-free-reads
 
 abbrev Inv-loop : tie.InvT-loop
-Inv-loop counts maxs tables table free from lacks domains₀ need spare choice₀ domains choice =
-    ((choice ≤ counts .choices) × (length domains ≡ 64)) × (domains ≡ eachBelow choice (tableRule (entryAt tables) (weightAt tables) counts maxs table free from lacks) domains₀)
+Inv-loop counts maxs tables table free from lacks wants domains₀ need spare choice₀ domains choice =
+    ((choice ≤ counts .choices) × (length domains ≡ 64)) × (domains ≡ eachBelow choice (tableRule (entryAt tables) (lightestAt tables) (weightAt tables) counts maxs table free from lacks wants) domains₀)
 
 abbrev μ-loop : tie.MeasureT-loop
-μ-loop counts maxs tables table free from lacks domains₀ need spare choice₀ domains choice =
+μ-loop counts maxs tables table free from lacks wants domains₀ need spare choice₀ domains choice =
     counts .choices - choice
 
 -- src/rule.rt:242:9
@@ -44,12 +45,12 @@ add-if1 c =
 -- src/rule.rt:246:9
 returns : tie.Need-returns Inv-loop μ-loop
 returns c =
-    once-spared _ _ _ _ _ _ _ _ _ _ _ _ (c .before .before .before .need-of .ensures .0) (c .before .before .weigh-free .ensures .0 .0) (c .before .before .weigh-free .ensures .1 .0) (c .if1 .taken)
+    once-spared _ _ _ _ _ _ _ _ _ _ _ _ _ _ (c .before .before .before .need-of .ensures .0) (c .before .before .weigh-free .ensures .0 .0) (c .before .before .weigh-free .ensures .1 .0) (c .if1 .taken)
 
 -- src/rule.rt:249:5
 loop-holds : tie.Need-loop-holds Inv-loop μ-loop
 loop-holds c =
-    ((first-within _ _ _ (c .before .before .before .before .before .pre .1 .1 .1), c .before .before .before .before .before .pre .1 .1 .0), once-start _ _ _ _ _ _ _ _ _ (c .before .before .before .before .before .pre .1 .1 .1))
+    ((first-within _ _ _ (c .before .before .before .before .before .pre .1 .1 .1), c .before .before .before .before .before .pre .1 .1 .0), once-start _ _ _ _ _ _ _ _ _ _ _ (c .before .before .before .before .before .pre .1 .1 .1))
 
 -- src/rule.rt:250:13
 member-requires : tie.Need-member-requires Inv-loop μ-loop
@@ -95,7 +96,7 @@ loop-less c = search needs
 -- src/rule.rt:249:5
 loop-again : tie.Need-loop-again Inv-loop μ-loop
 loop-again c =
-    ((omega (arith, c .before .before .before .before .if2 .taken), simp length-set (c .before .before .before .before .before .before .loop .inv .0 .1)), once-step _ _ _ _ _ _ _ _ _ _ _ _ _ _ _ (c .before .before .before .before .before .before .loop .inv .1) (omega (arith, c .before .before .before .before .if2 .taken, c .before .before .before .before .before .before .before .before .before .before .before .before .pre)) (c .before .before .before .before .before .before .before .before .before .before .need-of .ensures .0) (c .before .before .before .before .before .before .before .before .before .weigh-free .ensures .0 .0) (c .before .before .before .member .ensures) (c .next-domain .ensures))
+    ((omega (arith, c .before .before .before .before .if2 .taken), simp length-set (c .before .before .before .before .before .before .loop .inv .0 .1)), once-step _ _ _ _ _ _ _ _ _ _ _ _ _ _ _ _ _ (c .before .before .before .before .before .before .loop .inv .1) (omega (arith, c .before .before .before .before .if2 .taken, c .before .before .before .before .before .before .before .before .before .before .before .before .pre)) (c .before .before .before .before .before .before .before .before .before .before .need-of .ensures .0) (c .before .before .before .before .before .before .before .before .before .weigh-free .ensures .0 .0) (c .before .before .before .member .ensures) (c .next-domain .ensures))
 
 -- src/rule.rt:229:1
 returns-2 : tie.Need-returns-2 Inv-loop μ-loop

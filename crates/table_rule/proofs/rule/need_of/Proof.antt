@@ -1,62 +1,77 @@
--- The loop's invariant: what the lacks of the slots passed weigh.
+-- The loop's invariant: what the slots passed need.
 use Rattle.weight_tables.specs.Tables.{entryAt}
-use Rattle.table_rule.specs.Rule.{needOf}
-use Rattle.table_rule.proofs.RuleLaws.{need-start, need-step}
-use mathlib.Core.Path.{_≡_, refl, sym, _∙_}
-use Prim.Native.Nat.{_+_, _-_, _*_, _≤_}
+use Rattle.lightest_weights.specs.Lightest.{lightestAt}
+use Rattle.table_rule.specs.Rule.{needed}
+use Rattle.table_rule.proofs.RuleLaws.{needed-start, needed-step}
+use mathlib.Core.Path.{_≡_}
+use Prim.Native.Nat.{_-_, _*_, _≤_}
 use native.Mathlib.Omega.{arith}
-use borrow.Author.Tests.{not-true, not-false}
 use borrow.Author.Needs.{needs}
 use Rattle.table_rule.proofs.rule.need_of.Statement.{statement}
 use Rattle.table_rule.proofs.rule.need_of.Tie as tie
 use Rattle.table_rule.proofs.rule.need_of.Reads as reads
 use Rattle.table_rule.proofs.rule.need_of.Lts as lts
-use Rattle.weight_tables.proofs.entry.least_at.Reads as least-at-reads
+use Rattle.table_rule.proofs.rule.slot_needs.Reads as slot-needs-reads
 
 abbrev Inv-loop : tie.InvT-loop
-Inv-loop slots table from lacks tables need₀ slot₀ need slot =
-    ((slot ≤ slots) × (need ≤ slot * 65535)) × (need ≡ needOf (entryAt tables) slot table from lacks)
+Inv-loop slots table from lacks wants tables need₀ slot₀ need slot =
+    ((slot ≤ slots) × (need ≤ slot * 65535)) × (need ≡ needed (entryAt tables) (lightestAt tables) slot table from lacks wants)
 
 abbrev μ-loop : tie.MeasureT-loop
-μ-loop slots table from lacks tables need₀ slot₀ need slot =
+μ-loop slots table from lacks wants tables need₀ slot₀ need slot =
     slots - slot
 
--- src/rule.rt:37:5
+-- src/rule.rt:70:5
 loop-holds : tie.Need-loop-holds Inv-loop μ-loop
 loop-holds c =
-    ((omega arith, omega arith), need-start _ _ _ _)
+    ((omega arith, omega arith), needed-start _ _ _ _ _ _)
 
--- src/rule.rt:38:47
-mul-least-at : tie.Need-mul-least-at Inv-loop μ-loop
-mul-least-at c = search needs
+-- src/rule.rt:71:49
+mul-slot-needs : tie.Need-mul-slot-needs Inv-loop μ-loop
+mul-slot-needs c =
+    search needs
 
--- src/rule.rt:38:47
-element-copy-out-least-at : tie.Need-element-copy-out-least-at Inv-loop μ-loop
-element-copy-out-least-at c = search needs
+-- src/rule.rt:71:49
+element-copy-out-slot-needs : tie.Need-element-copy-out-slot-needs Inv-loop μ-loop
+element-copy-out-slot-needs c =
+    search needs
 
--- src/rule.rt:38:17
-least-at-requires : tie.Need-least-at-requires Inv-loop μ-loop
-least-at-requires c κs = search needs
+-- src/rule.rt:71:62
+mul-slot-needs-2 : tie.Need-mul-slot-needs-2 Inv-loop μ-loop
+mul-slot-needs-2 c =
+    search needs
 
--- src/rule.rt:38:9
+-- src/rule.rt:71:62
+element-copy-out-slot-needs-2 : tie.Need-element-copy-out-slot-needs-2 Inv-loop μ-loop
+element-copy-out-slot-needs-2 c =
+    search needs
+
+-- src/rule.rt:71:17
+slot-needs-requires : tie.Need-slot-needs-requires Inv-loop μ-loop
+slot-needs-requires c κs =
+    search needs
+
+-- src/rule.rt:71:9
 add-need : tie.Need-add-need Inv-loop μ-loop
 add-need c =
-    omega (arith, c .before .before .before .loop .inv .0 .1, c .least-at .ensures .1, c .before .before .loop-test .taken, c .before .before .before .before .pre)
+    omega (arith, c .before .before .before .before .loop .inv .0 .1, c .slot-needs .ensures .1, c .before .before .before .loop-test .taken, c .before .before .before .before .before .pre)
 
--- src/rule.rt:39:9
+-- src/rule.rt:72:9
 add-slot : tie.Need-add-slot Inv-loop μ-loop
-add-slot c = search needs
+add-slot c =
+    search needs
 
--- src/rule.rt:37:5
+-- src/rule.rt:70:5
 loop-less : tie.Need-loop-less Inv-loop μ-loop
-loop-less c = search needs
+loop-less c =
+    search needs
 
--- src/rule.rt:37:5
+-- src/rule.rt:70:5
 loop-again : tie.Need-loop-again Inv-loop μ-loop
 loop-again c =
-    ((omega (arith, c .before .before .loop-test .taken), omega (arith, c .before .before .before .loop .inv .0 .1, c .least-at .ensures .1)), need-step _ _ _ _ _ _ _ (c .before .before .before .loop .inv .1) (c .least-at .ensures .0))
+    ((omega (arith, c .before .before .before .loop-test .taken), omega (arith, c .before .before .before .before .loop .inv .0 .1, c .slot-needs .ensures .1)), needed-step _ _ _ _ _ _ _ _ _ (c .before .before .before .before .loop .inv .1) (c .slot-needs .ensures .0))
 
--- src/rule.rt:25:1
+-- src/rule.rt:57:1
 returns : tie.Need-returns Inv-loop μ-loop
 returns c =
     let e : c .before .loop .slot ≡ c .before .before .args .slots = omega (arith, c .loop-test .left, c .before .loop .inv .0 .0) in (rw e at (c .before .loop .inv .1), omega (arith, e, c .before .loop .inv .0 .1, c .before .before .pre))
@@ -68,9 +83,11 @@ need-of-spec =
     Inv-loop
     μ-loop
     loop-holds
-    mul-least-at
-    element-copy-out-least-at
-    least-at-requires
+    mul-slot-needs
+    element-copy-out-slot-needs
+    mul-slot-needs-2
+    element-copy-out-slot-needs-2
+    slot-needs-requires
     add-need
     add-slot
     loop-less

@@ -1,6 +1,7 @@
 -- Free or not.
 use borrow.Author.Tests.{not-true, not-false}
 use Rattle.weight_tables.specs.Tables.{entryAt, weightAt}
+use Rattle.lightest_weights.specs.Lightest.{lightestAt}
 use Rattle.table_rule.specs.Rule.{leftOf}
 use Rattle.table_rule.proofs.RuleLaws.{next-same, next-left}
 use borrow.Author.Needs.{needs}
@@ -15,7 +16,7 @@ use Rattle.weight_tables.proofs.weight.wide_word.Reads as wide-word-reads
 -- src/rule.rt:211:9
 returns : tie.Need-returns
 returns c =
-    let a = c .before .args in next-same (a .free) (leftOf (entryAt (a .tables .now)) (a .slots) (a .table) (a .from) (a .lacks .now) (weightAt (a .tables .now) (a .table) (a .choice)) (a .most) (a .need) (a .spare) (a .domain)) (a .domain) (not-true (a .free) (c .if1 .taken))
+    let a = c .before .args in next-same (a .free) (leftOf (entryAt (a .tables .now)) (lightestAt (a .tables .now)) (a .slots) (a .table) (a .from) (a .lacks .now) (a .wants .now) (weightAt (a .tables .now) (a .table) (a .choice)) (a .most) (a .need) (a .spare) (a .domain)) (a .domain) (not-true (a .free) (c .if1 .taken))
 
 -- src/rule.rt:213:9
 weight-at-requires : tie.Need-weight-at-requires
@@ -33,7 +34,7 @@ left-of-requires c κs =
 -- src/rule.rt:194:1
 returns-2 : tie.Need-returns-2
 returns-2 c =
-    next-left _ (c .before .before .before .before .args .free) _ _ _ _ _ _ _ _ _ _ _ _ (not-false (c .before .before .before .before .args .free) (c .before .before .before .if1 .left)) (c .before .before .weight-at .ensures .0) (c .before .wide-word .ensures .0) (c .left-of .ensures)
+    next-left _ _ (c .before .before .before .before .args .free) _ _ _ _ _ _ _ _ _ _ _ _ _ (not-false (c .before .before .before .before .args .free) (c .before .before .before .if1 .left)) (c .before .before .weight-at .ensures .0) (c .before .wide-word .ensures .0) (c .left-of .ensures)
 
 pub next-domain-spec : {M : Type 1} → statement M
 next-domain-spec =

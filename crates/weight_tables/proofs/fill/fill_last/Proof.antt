@@ -15,7 +15,7 @@ use Rattle.weight_tables.proofs.fill.last_entry.Reads as last-entry-rea
 
 abbrev Inv-loop : tie.InvT-loop
 Inv-loop at entries tables₀ lack₀ tables lack =
-    ((lack ≤ entries) × (length tables ≡ 52516)) × (tables ≡ written lack at lastEntry tables₀)
+    ((lack ≤ entries) × (length tables ≡ 69416)) × (tables ≡ written lack at lastEntry tables₀)
 
 abbrev μ-loop : tie.MeasureT-loop
 μ-loop at entries tables₀ lack₀ tables lack =

@@ -18,7 +18,7 @@ use Rattle.weight_tables.proofs.weight.wide_word.Reads as wide-word-rea
 
 abbrev Inv-loop : tie.InvT-loop
 Inv-loop at entries weight most tables₀ lack₀ tables lack =
-    ((lack ≤ entries) × (length tables ≡ 52516)) × (tables ≡ written lack at (nextEntry tables₀ at weight most) tables₀)
+    ((lack ≤ entries) × (length tables ≡ 69416)) × (tables ≡ written lack at (nextEntry tables₀ at weight most) tables₀)
 
 abbrev μ-loop : tie.MeasureT-loop
 μ-loop at entries weight most tables₀ lack₀ tables lack =

@@ -13,7 +13,7 @@ use Rattle.weight_tables.proofs.weight.set_ones.Lts as lts
 
 abbrev Inv-loop : tie.InvT-loop
 Inv-loop tables₀ choice₀ tables choice =
-    ((choice ≤ 64) × (length tables ≡ 52516)) × (tables ≡ written choice 52260 (λ x. 1) tables₀)
+    ((choice ≤ 64) × (length tables ≡ 69416)) × (tables ≡ written choice 52260 (λ x. 1) tables₀)
 
 abbrev μ-loop : tie.MeasureT-loop
 μ-loop tables₀ choice₀ tables choice =

@@ -1,0 +1,115 @@
+// A free choice loses a slot that has no room for it and for as many more as fill the rest of the slot's lack.
+use choice_sets::set::member;
+use place_sets::places::kept;
+use weight_tables::entry::least_at;
+use weight_tables::entry::less;
+use weight_tables::weight::wide_word;
+ghost use mathlib.Core.Path.{_≡_};
+ghost use mathlib.Core.Bool.{true, false, _&&_, cond};
+ghost use Prim.Native.Nat.{suc, _+_, _-_, _≤_, _<_};
+ghost use lib.Dec.{leb};
+ghost use lib.ListN.{length};
+ghost use Rattle.weight_tables.specs.Tables.{entryAt};
+ghost use Rattle.place_sets.specs.Domains.{keptPlaces};
+ghost use Rattle.table_rule.specs.Figures.{firstIn};
+ghost use Rattle.count_rule.specs.CountRule.{slotRule, roomsBelow};
+
+// Whether a slot that takes so many other choices has no room for one more.
+fn is_full(room: usize, others: usize) -> bool
+    requires { ⌜ others ≤ 65535 ⌝ }
+    ensures { λ r. ⌜ r ≡ leb room (others + 1) ⌝ }
+{
+    room <= others + 1
+}
+
+// What is left of one domain: a free choice loses the slot if that is full with it.
+fn left_with(
+    free: bool,
+    tables: &[u16; 69416],
+    from: usize,
+    lack: usize,
+    most: u16,
+    room: usize,
+    slot: usize,
+    domain: u64,
+) -> u64
+    ensures { λ r. ⌜ r ≡ cond (free && leb room (suc (entryAt (now (tables .entry)) 0 from (lack - most)))) (keptPlaces domain slot false true) domain ⌝ }
+{
+    if !free {
+        return domain;
+    }
+    let others = least_at(tables, 0, from, less(lack, wide_word(most)));
+    if !is_full(room, others) {
+        return domain;
+    }
+    kept(domain, slot, false, true)
+}
+
+// One slot's rule for every choice from the first free one on: a slot that has room for all of them is lost to none.
+fn narrow_slot(
+    choices: usize,
+    maxs: &[u16],
+    tables: &[u16; 69416],
+    free: u64,
+    from: usize,
+    lacks: &[usize; 24],
+    rooms: &[usize; 24],
+    slot: usize,
+    domains: &mut [u64; 64],
+)
+    requires { ⌜ (slot < 24) × ((choices ≤ 64) × ((length (now maxs) ≡ choices) × (from ≡ firstIn choices free))) ⌝ }
+    ensures { λ r. ⌜ now (domains .exit) ≡ slotRule (entryAt (now (tables .entry))) choices (now (maxs .entry)) free from (now (lacks .entry)) (now (rooms .entry)) slot (now (domains .entry)) ⌝ }
+{
+    let room = rooms[slot];
+    if 64 < room {
+        return;
+    }
+    let lack = lacks[slot];
+    let mut choice = from;
+    while choice < choices {
+        let domain = domains[choice];
+        domains[choice] = left_with(
+            member(free, choice),
+            tables,
+            from,
+            lack,
+            maxs[choice],
+            room,
+            slot,
+            domain,
+        );
+        choice += 1;
+    }
+}
+
+// The slots one after the other.
+pub(crate) fn narrow_by_rooms(
+    slots: usize,
+    choices: usize,
+    maxs: &[u16],
+    tables: &[u16; 69416],
+    free: u64,
+    from: usize,
+    lacks: &[usize; 24],
+    rooms: &[usize; 24],
+    domains: &mut [u64; 64],
+)
+    requires { ⌜ (slots ≤ 24) × ((choices ≤ 64) × ((length (now maxs) ≡ choices) × (from ≡ firstIn choices free))) ⌝ }
+    ensures { λ r. ⌜ now (domains .exit) ≡ roomsBelow (entryAt (now (tables .entry))) choices (now (maxs .entry)) free from (now (lacks .entry)) (now (rooms .entry)) slots (now (domains .entry)) ⌝ }
+{
+    let mut slot = 0;
+    while slot < slots {
+        narrow_slot(
+            choices,
+            maxs,
+            tables,
+            free,
+            from,
+            lacks,
+            rooms,
+            slot,
+            domains,
+        );
+        slot += 1;
+    }
+}

@@ -1,0 +1,3 @@
+-- Laws of the least weights of so many choices.
+pub mod LightestLaws
+pub mod FillLaws

@@ -1,0 +1,2 @@
+pub mod Lightest
+pub mod steps

@@ -1,0 +1,17 @@
+-- A later choice, or one of the plan.
+use Rattle.twin_slots.proofs.NameLaws.{later, placed}
+use Rattle.twin_slots.proofs.names.has_place.Statement.{statement}
+use Rattle.twin_slots.proofs.names.has_place.Tie as tie
+
+-- src/names.rt:39:9
+returns : tie.Need-returns
+returns c =
+    later _ _ _ (c .if1 .taken)
+
+-- src/names.rt:34:1
+returns-2 : tie.Need-returns-2
+returns-2 c =
+    placed _ _ _ (c .if1 .left)
+
+pub has-place-spec : {M : Type 1} → statement M
+has-place-spec = tie.close (tie.spec returns returns-2)
