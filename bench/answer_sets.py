@@ -116,8 +116,8 @@ def asked(grounded, number, limit, *options):
     limits = [f"--time-limit={limit}"] if limit else []
     out, ended = clasp(grounded, "-n", str(number), "-q", "--outf=2", *limits, *options)
     told = json.loads(out)
-    # Stopped before it began to look, clasp tells of no plans at all.
-    return Said(told.get("Models", {"Number": 0})["Number"], ended, told["Time"]["CPU"])
+    # Stopped before it began to look, clasp tells of no plans at all, and stopped while it read, of no time.
+    return Said(told.get("Models", {"Number": 0})["Number"], ended, told.get("Time", {"CPU": limit})["CPU"])
 
 
 def all_plans(grounded):

@@ -68,9 +68,11 @@ static void list_plans(void)
 {
     number = thalluscrest_list_plans(C, S, H, mins, C, maxs, C, optional, C, rows, searched, 0, 16, 1000000, file, 16 * C, figures);
 }
+/* The rows of kind 1 alone, which come first: a chooser who is given twice keeps a choice apart from itself, and there is no plan to
+ * go down to. */
 static void list_page(void)
 {
-    number = thalluscrest_list_page(C, S, H, mins, C, maxs, C, optional, C, rows, searched, 0, 16, 1000000, file, 16 * C, figures);
+    number = thalluscrest_list_page(C, S, H, mins, C, maxs, C, optional, C, rows, C / 2, 0, 16, 1000000, file, 16 * C, figures);
 }
 
 struct job { void (*call)(void); unsigned char *stack; size_t taken; };
@@ -122,7 +124,7 @@ int main(void)
     for (size_t i = 0; i < sizeof calls / sizeof *calls; i++) {
         size_t bytes = taken(calls[i].call);
         printf("%-12s %s%6zu bytes of stack, number %d\n", calls[i].name, bytes > NEAR ? "" : "at most ", bytes, number);
-        if (bytes > (calls[i].call == list_page ? 327680 : 65536))
+        if (bytes > (calls[i].call == list_page ? 458752 : 65536))
             return 1;
     }
 }
