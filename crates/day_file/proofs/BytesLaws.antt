@@ -6,19 +6,19 @@ use native.Mathlib.Numerals.{add-one}
 use native.Mathlib.Omega.{arith}
 use lib.ListN.{length, getD, take}
 use lib.Seq.{drop-cons}
-use Rattle.lists.specs.Flat.{listBelow, joinBelow}
-use Rattle.lists.specs.Pool.{window}
-use Rattle.lists.proofs.Flat.{length-list, getD-list, window-split, window-all, join-windows}
-use Rattle.constraint.specs.declared.row.Row.{Row}
-use Rattle.constraint.proofs.RowLaws.{Fits, row-of-number}
-use Rattle.day_file.specs.Day.{day}
+use Rattle.base_lists.specs.Flat.{listBelow, joinBelow}
+use Rattle.base_lists.specs.Pool.{window}
+use Rattle.base_lists.proofs.Flat.{length-list, getD-list, window-split, window-all, join-windows}
+use Rattle.day_rows.specs.declared.row.Row.{Row}
+use Rattle.day_rows.proofs.RowLaws.{Fits, row-of-number}
+use Rattle.day_file.specs.FileDay.{day}
 use Rattle.day_file.specs.File.{word, wordAt, signBitFlipped, rowBytes, rowAt, placesOf, headBytes, lengthIn, versionIn, countsIn, choiceBytes, bytesOf, listsIn, dayIn}
-use Rattle.day_file.specs.declared.counts.DayCounts.{DayCounts}
+use Rattle.day_file.specs.declared.counts.FileCounts.{FileCounts}
 use Rattle.day_file.proofs.ReadLaws.{Head}
 use Rattle.day_file.proofs.FormatLaws.{Bytes, flipped-twice}
 
 module _ (file : List ℕ) (bytes : Bytes file) where
-  -- one byte and two bytes, as they stand
+  -- one byte, and two bytes as a number, are the window where they stand
   one-byte : (a : ℕ) → a < length file → (getD file a 0 ∷ []) ≡ window a 1 file
   unfolding window
   one-byte a h = rw (drop-cons file a 0 h)
@@ -35,7 +35,7 @@ module _ (file : List ℕ) (bytes : Bytes file) where
   unfolding wordAt
   word-under a = omega (arith, bytes a, bytes (a + 1))
 
-  -- five bytes and six
+  -- a choice's five bytes and a row's six are the window where they stand
   choice-bytes : (a : ℕ) → a + 4 < length file → word (wordAt file a) ++ (word (wordAt file (a + 2)) ++ (getD file (a + 4) 0 ∷ [])) ≡ window a 5 file
   choice-bytes a h =
       let e : a + 4 ≡ a + 2 + 2 = omega arith in
@@ -61,7 +61,7 @@ module _ (file : List ℕ) (bytes : Bytes file) where
       (ap (λ (l : List ℕ). getD file a 0 ∷ l)
       (window-split (a + 1) 1 4 file ∙ rw (sym (one-byte (a + 1) (omega arith)), sym one) (ap (λ (l : List ℕ). getD file (a + 1) 0 ∷ l) (window-split (a + 2) 2 2 file))))))
 
-  -- eleven bytes: the head
+  -- the eleven bytes of a head are the file's first window
   head-bytes : 11 ≤ length file → versionIn file ≡ 1 → lengthIn file ≡ placesOf 5 (countsIn file) .end - 4 → headBytes 1 (countsIn file) ≡ window 0 11 file
   unfolding headBytes lengthIn
   head-bytes long v l =
@@ -88,7 +88,7 @@ module _ (file : List ℕ) (bytes : Bytes file) where
       (window-split 8 1 2 file ∙ rw (sym (one-byte 8 (omega arith)))))))))))))))
 
   -- the parts of a file with these counts, which end where it does
-  module _ (counts : DayCounts) (end : placesOf 5 counts .end ≡ length file) where
+  module _ (counts : FileCounts) (end : placesOf 5 counts .end ≡ length file) where
     choices-bytes : joinBelow (counts .choices) (choiceBytes (listsIn file counts .mins) (listsIn file counts .maxs) (listsIn file counts .optional)) ≡ window 11 (5 * counts .choices) file
     unfolding listsIn choiceBytes
     choices-bytes =

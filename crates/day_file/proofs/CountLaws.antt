@@ -6,35 +6,35 @@ use native.Mathlib.Nat.{le-trans, mul-le-mul-left, mul-le-mul-right}
 use native.Mathlib.Omega.{arith}
 use borrow.Author.Tests.{le-leb, lt-leb, leb-true, eqb-true}
 use lib.Dec.{leb, eqb}
-use Rattle.lists.proofs.Below.{and-left, and-right}
-use Rattle.constraint.specs.Check.{countsInRange}
-use Rattle.constraint.specs.declared.check.Counts.{Counts}
-use Rattle.constraint.specs.declared.check.Takes.the-variants as takes
-use Rattle.constraint.proofs.CountLaws as limits
-use Rattle.day_lists.specs.Levels.{levelsInRange}
-use Rattle.day_file.specs.Day.{rowCounts, countsKeep, lengthsFull}
+use Rattle.base_lists.proofs.Below.{and-left, and-right}
+use Rattle.day_rows.specs.Check.{countsInRange}
+use Rattle.day_rows.specs.declared.check.Counts.{Counts}
+use Rattle.day_rows.specs.declared.check.Takes.the-variants as takes
+use Rattle.day_rows.proofs.CountLaws as limits
+use Rattle.day_rows.specs.Levels.{levelsInRange}
+use Rattle.day_file.specs.FileDay.{rowCounts, fileCountsInRange, lengthsFull}
 use Rattle.day_file.specs.File.{placesOf}
-use Rattle.day_file.specs.declared.counts.DayCounts.{DayCounts}
+use Rattle.day_file.specs.declared.counts.FileCounts.{FileCounts}
 use Rattle.day_file.specs.declared.counts.Places.{Places}
 
-module _ (counts : DayCounts) {b : Bool} {asked : Counts} (e : asked ≡ rowCounts counts) (t : b ≡ countsInRange asked takes.Given) where
+module _ (counts : FileCounts) {b : Bool} {asked : Counts} (e : asked ≡ rowCounts counts) (t : b ≡ countsInRange asked takes.Given) where
   rows-test : countsInRange (rowCounts counts) takes.Given ≡ b
   rows-test = sym (ap (λ (c : Counts). countsInRange c takes.Given) e) ∙ sym t
 
-  pub keep-rows : b ≡ false → false ≡ countsKeep counts
-  unfolding countsKeep
+  pub keep-rows : b ≡ false → false ≡ fileCountsInRange counts
+  unfolding fileCountsInRange
   keep-rows h = rw (rows-test ∙ h)
 
-  pub keep-none : b ≡ true → counts .levels < 1 → false ≡ countsKeep counts
-  unfolding countsKeep levelsInRange
+  pub keep-none : b ≡ true → counts .levels < 1 → false ≡ fileCountsInRange counts
+  unfolding fileCountsInRange levelsInRange
   keep-none h l = rw (rows-test ∙ h, lt-leb _ _ l)
 
-  pub keep-most : b ≡ true → 1 ≤ counts .levels → leb (counts .levels) 64 ≡ countsKeep counts
-  unfolding countsKeep levelsInRange
+  pub keep-most : b ≡ true → 1 ≤ counts .levels → leb (counts .levels) 64 ≡ fileCountsInRange counts
+  unfolding fileCountsInRange levelsInRange
   keep-most h l = rw (rows-test ∙ h, le-leb _ _ l)
 
--- counts in their ranges, and so at most 12,800 preferences
-pub record InRange (counts : DayCounts) : Type 0 where
+-- what counts in their ranges say: each is within its limit, and so at most 12,800 preferences
+pub record InRange (counts : FileCounts) : Type 0 where
   pub choices : counts .choices ≤ 64
   pub slots : counts .slots ≤ 24
   pub choosers : counts .choosers ≤ 200
@@ -43,8 +43,8 @@ pub record InRange (counts : DayCounts) : Type 0 where
   pub levels : counts .levels ≤ 64
   pub cells : counts .choosers * counts .choices ≤ 12800
 
-pub in-range : (counts : DayCounts) → countsKeep counts ≡ true → InRange counts
-unfolding countsKeep levelsInRange
+pub in-range : (counts : FileCounts) → fileCountsInRange counts ≡ true → InRange counts
+unfolding fileCountsInRange levelsInRange
 in-range counts h =
     let rows = countsInRange (rowCounts counts) takes.Given in
     let some = leb 1 (counts .levels) in
@@ -61,14 +61,14 @@ in-range counts h =
     }
 
 -- the parts of a file of so many bytes, one after the other to its end
-pub record Within (counts : DayCounts) (places : Places) (size : ℕ) : Type 0 where
+pub record Within (counts : FileCounts) (places : Places) (size : ℕ) : Type 0 where
   pub range : InRange counts
   pub levels : places .levels ≡ 11 + 5 * counts .choices
   pub preferences : places .preferences ≡ places .levels + 2 * counts .levels
   pub rows : places .rows ≡ places .preferences + 2 * (counts .choosers * counts .choices)
   pub end : places .rows + 6 * counts .rows ≡ size
 
-pub within : {counts : DayCounts} {places : Places} {size : ℕ} → countsKeep counts ≡ true → placesOf 5 counts .end ≡ size → places ≡ placesOf 5 counts
+pub within : {counts : FileCounts} {places : Places} {size : ℕ} → fileCountsInRange counts ≡ true → placesOf 5 counts .end ≡ size → places ≡ placesOf 5 counts
     → Within counts places size
 within {counts} {places} {size} k e p =
     let levels : places .levels ≡ placesOf 5 counts .levels = ap (λ (q : Places). q .levels) p in
@@ -77,7 +77,7 @@ within {counts} {places} {size} k e p =
     record { range = in-range counts k; levels = levels; preferences = omega arith; rows = omega arith; end = omega arith }
 
 -- what each part asks of the file and, where it is filled from it, of its pool
-module _ {counts : DayCounts} {places : Places} {size : ℕ} (w : Within counts places size) where
+module _ {counts : FileCounts} {places : Places} {size : ℕ} (w : Within counts places size) where
   pub mins-ask : {pool : ℕ} → pool ≡ 64 → (counts .choices ≤ pool) × ((k : ℕ) → k < counts .choices → 11 + 5 * k + 1 < size)
   mins-ask e = (omega arith, λ k h. omega arith)
 

@@ -1,4 +1,5 @@
--- Days and files: every day's file reads as that day, every good file is the file of a day, and no two days have one file.
+-- Days and files: every day's file reads as that day, every good file is the file of a day, and no two days
+-- have one file.
 use mathlib.Core.Path.{_≡_, refl, sym, _∙_, ap}
 use mathlib.Core.Bool.{true, false, _&&_, false≢true}
 use mathlib.Core.List.{List}
@@ -7,17 +8,17 @@ use native.Mathlib.Omega.{arith}
 use borrow.Author.Tests.{le-leb, eq-eqb}
 use lib.Dec.{leb}
 use lib.ListN.{length}
-use Rattle.lists.specs.All.{allAtMost}
-use Rattle.lists.specs.Flat.{listBelow}
-use Rattle.lists.proofs.Below.{and-left, and-right, each-all}
-use Rattle.lists.proofs.Flat.{length-list}
-use Rattle.constraint.specs.Told.{done, refused, Verdict, good, outcome}
-use Rattle.constraint.proofs.ToldLaws.{unless-done, then-done}
-use Rattle.day_lists.specs.Levels.{levelsRise, lastLevel}
-use Rattle.day_file.specs.Day.{Parts, Day, countsKeep, lengthsKeep, dayRowsJudged, isGood, isDay, poolsFull, padded}
+use Rattle.base_lists.specs.All.{allAtMost}
+use Rattle.base_lists.specs.Flat.{listBelow}
+use Rattle.base_lists.proofs.Below.{and-left, and-right, each-all}
+use Rattle.base_lists.proofs.Flat.{length-list}
+use Rattle.day_rows.specs.Told.{done, refused, Verdict, good, outcome}
+use Rattle.day_rows.proofs.ToldLaws.{unless-done, then-done}
+use Rattle.day_rows.specs.Levels.{levelsRise, lastLevel}
+use Rattle.day_file.specs.FileDay.{Parts, FileDay, fileCountsInRange, fileLengthsFit, dayRowsJudged, isGood, isDay, poolsFull, padded}
 use Rattle.day_file.specs.File.{wordAt, placesOf, countsIn, listsIn, dayIn, bytesOf}
 use Rattle.day_file.specs.Calls.{headJudged, bodyJudged, fileJudged, readOf}
-use Rattle.day_file.specs.declared.counts.DayCounts.{DayCounts}
+use Rattle.day_file.specs.declared.counts.FileCounts.{FileCounts}
 use Rattle.day_file.proofs.CountLaws.{InRange, in-range}
 use Rattle.day_file.proofs.JudgeLaws.{at-most-list, last-list}
 use Rattle.day_file.proofs.ReadLaws.{head-good, Head, good-head, file-body, read-good}
@@ -29,10 +30,10 @@ pub good-is : (verdict : Verdict) → isGood verdict ≡ true → verdict ≡ go
 good-is (done value) h = refl
 good-is (refused number carried) h = absurd (false≢true h)
 
--- what makes a day, test by test
-pub record IsDay (d : Day) : Type 0 where
-  pub counts-keep : countsKeep (d .counts) ≡ true
-  pub lengths-keep : lengthsKeep (d .counts) (d .lists) ≡ true
+-- what makes a day, test by test of `isDay`
+pub record IsDay (d : FileDay) : Type 0 where
+  pub counts-keep : fileCountsInRange (d .counts) ≡ true
+  pub lengths-keep : fileLengthsFit (d .counts) (d .lists) ≡ true
   pub mins-keep : allAtMost 65535 (d .lists .mins) ≡ true
   pub maxs-keep : allAtMost 65535 (d .lists .maxs) ≡ true
   pub optional-keep : allAtMost 1 (d .lists .optional) ≡ true
@@ -41,11 +42,11 @@ pub record IsDay (d : Day) : Type 0 where
   pub preferences-keep : allAtMost (lastLevel (d .lists .levels)) (d .lists .preferences) ≡ true
   pub rows-keep : dayRowsJudged d ≡ good
 
-pub day-says : (d : Day) → isDay d ≡ true → IsDay d
+pub day-says : (d : FileDay) → isDay d ≡ true → IsDay d
 unfolding isDay
 day-says d h =
-    let a = countsKeep (d .counts) in
-    let b = a && lengthsKeep (d .counts) (d .lists) in
+    let a = fileCountsInRange (d .counts) in
+    let b = a && fileLengthsFit (d .counts) (d .lists) in
     let c = b && allAtMost 65535 (d .lists .mins) in
     let e = c && allAtMost 65535 (d .lists .maxs) in
     let f = e && allAtMost 1 (d .lists .optional) in
@@ -71,14 +72,14 @@ day-says d h =
       rows-keep = good-is (dayRowsJudged d) (and-right j _ h);
     }
 
-pub says-day : (d : Day) → IsDay d → isDay d ≡ true
+pub says-day : (d : FileDay) → IsDay d → isDay d ≡ true
 unfolding isDay
 says-day d k =
     rw
     (k .counts-keep, k .lengths-keep, k .mins-keep, k .maxs-keep, k .optional-keep, k .levels-keep, k .last-keeps, k .preferences-keep, k .rows-keep)
 
 -- the file of a day is good
-module _ (d : Day) (k : IsDay d) where
+module _ (d : FileDay) (k : IsDay d) where
   range : InRange (d .counts)
   range = in-range (d .counts) (k .counts-keep)
 
@@ -95,7 +96,7 @@ module _ (d : Day) (k : IsDay d) where
   head-of-day =
       let least : 11 ≤ length (bytesOf d) = rw size (omega arith) in
       head-good (bytesOf d) least refl (length-back (d .counts) (d .lists) ∙ ap (λ (n : ℕ). n - 4) (sym size)) (version-back (d .counts) (d .lists)) refl refl
-      (ap countsKeep same-counts ∙ k .counts-keep) refl (ap (λ (c : DayCounts). placesOf 5 c .end) same-counts ∙ sym size)
+      (ap fileCountsInRange same-counts ∙ k .counts-keep) refl (ap (λ (c : FileCounts). placesOf 5 c .end) same-counts ∙ sym size)
 
   body-of-day : bodyJudged d ≡ good
   unfolding bodyJudged
@@ -106,7 +107,7 @@ module _ (d : Day) (k : IsDay d) where
       sym (file-body (bytesOf d) head-of-day refl refl refl) ∙ ap bodyJudged (day-back d long) ∙ body-of-day
 
 -- what is written reads back as the same day
-pub reads-back : (d : Day) → isDay d ≡ true → (pools : Parts) → poolsFull pools ≡ true → readOf (bytesOf d) pools ≡ outcome (done (d .counts)) (padded (d .lists))
+pub reads-back : (d : FileDay) → isDay d ≡ true → (pools : Parts) → poolsFull pools ≡ true → readOf (bytesOf d) pools ≡ outcome (done (d .counts)) (padded (d .lists))
 reads-back d h pools f =
     let k = day-says d h in
     let l = lengths (d .counts) (d .lists) (k .lengths-keep) in
@@ -115,7 +116,7 @@ reads-back d h pools f =
     (ap padded (sym (lists-back (d .counts) (d .lists) l))))
 
 -- no two days have one file
-pub one-file : (d e : Day) → isDay d ≡ true → isDay e ≡ true → bytesOf d ≡ bytesOf e → d ≡ e
+pub one-file : (d e : FileDay) → isDay d ≡ true → isDay e ≡ true → bytesOf d ≡ bytesOf e → d ≡ e
 one-file d e hd he same =
     sym (day-back d (lengths (d .counts) (d .lists) (day-says d hd .lengths-keep)))
     ∙ ap dayIn same
@@ -126,7 +127,7 @@ pub good-body : (file : List ℕ) → fileJudged file ≡ good → bodyJudged (d
 unfolding fileJudged
 good-body file g = then-done (headJudged file) (bodyJudged (dayIn file)) g .1
 
--- what reads is a day
+-- what a good file reads as is a day
 module _ (file : List ℕ) (bytes : Bytes file) (g : fileJudged file ≡ good) where
   head : Head file
   head = good-head file g
@@ -136,8 +137,8 @@ module _ (file : List ℕ) (bytes : Bytes file) (g : fileJudged file ≡ good) w
       at-most-list n (λ i. wordAt file (at + step * i)) 65535
       ∙ each-all n (λ i. leb (wordAt file (at + step * i)) 65535) (λ i h. le-leb (wordAt file (at + step * i)) 65535 (omega (arith, word-under file bytes (at + step * i))))
 
-  lengths-read : lengthsKeep (countsIn file) (listsIn file (countsIn file)) ≡ true
-  unfolding lengthsKeep listsIn
+  lengths-read : fileLengthsFit (countsIn file) (listsIn file (countsIn file)) ≡ true
+  unfolding fileLengthsFit listsIn
   lengths-read =
       simp (length-list)
       (rw (
@@ -181,6 +182,6 @@ module _ (file : List ℕ) (bytes : Bytes file) (g : fileJudged file ≡ good) w
         rows-keep = preferences .1;
       }
 
-  -- and writes back as the same bytes
+  -- a good file writes back as the same bytes
   pub file-back : bytesOf (dayIn file) ≡ file
   file-back = bytes-back file bytes head

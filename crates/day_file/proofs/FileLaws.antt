@@ -7,16 +7,16 @@ use native.Mathlib.Omega.{arith}
 use borrow.Author.Tests.{eqb-true}
 use lib.Dec.{eqb}
 use lib.ListN.{length, getD, length-append}
-use Rattle.lists.specs.Flat.{joinBelow}
-use Rattle.lists.proofs.Below.{and-left, and-right}
-use Rattle.lists.proofs.Flat.{length-join}
-use Rattle.day_file.specs.Day.{Parts, day, lengthsKeep}
+use Rattle.base_lists.specs.Flat.{joinBelow}
+use Rattle.base_lists.proofs.Below.{and-left, and-right}
+use Rattle.base_lists.proofs.Flat.{length-join}
+use Rattle.day_file.specs.FileDay.{Parts, day, fileLengthsFit}
 use Rattle.day_file.specs.File.{word, rowBytes, headBytes, choiceBytes, bytesOf, placesOf, longestFile}
-use Rattle.day_file.specs.declared.counts.DayCounts.{DayCounts}
+use Rattle.day_file.specs.declared.counts.FileCounts.{FileCounts}
 use Rattle.day_file.proofs.CountLaws.{InRange}
 
 -- lists as long as their counts give
-pub record Lengths (counts : DayCounts) (lists : Parts) : Type 0 where
+pub record Lengths (counts : FileCounts) (lists : Parts) : Type 0 where
   pub mins-long : length (lists .mins) ≡ counts .choices
   pub maxs-long : length (lists .maxs) ≡ counts .choices
   pub optional-long : length (lists .optional) ≡ counts .choices
@@ -24,8 +24,8 @@ pub record Lengths (counts : DayCounts) (lists : Parts) : Type 0 where
   pub preferences-long : length (lists .preferences) ≡ counts .choosers * counts .choices
   pub rows-long : length (lists .rows) ≡ counts .rows
 
-pub lengths : (counts : DayCounts) (lists : Parts) → lengthsKeep counts lists ≡ true → Lengths counts lists
-unfolding lengthsKeep
+pub lengths : (counts : FileCounts) (lists : Parts) → fileLengthsFit counts lists ≡ true → Lengths counts lists
+unfolding fileLengthsFit
 lengths counts lists h =
     let a = eqb (length (lists .mins)) (counts .choices) in
     let b = a && eqb (length (lists .maxs)) (counts .choices) in
@@ -45,7 +45,7 @@ lengths counts lists h =
       rows-long = eqb-true _ _ (and-right e _ h);
     }
 
--- the bytes of each record
+-- how many bytes a number, a choice, a row and the head take
 pub length-word : (v : ℕ) → length (word v) ≡ 2
 unfolding word
 length-word v = refl
@@ -58,11 +58,11 @@ pub length-choice : (mins maxs optional : List ℕ) (i : ℕ) → length (choice
 unfolding choiceBytes word
 length-choice mins maxs optional i = refl
 
-pub length-head : (version : ℕ) (counts : DayCounts) → length (headBytes version counts) ≡ 11
+pub length-head : (version : ℕ) (counts : FileCounts) → length (headBytes version counts) ≡ 11
 unfolding headBytes word
 length-head version counts = refl
 
--- the bytes of each part
+-- how many bytes each part of a file takes
 pub length-words : (words : List ℕ) (n : ℕ) → length (joinBelow n (λ i. word (getD words i 0))) ≡ 2 * n
 length-words words n = length-join n 2 (λ i. word (getD words i 0)) (λ i h. length-word (getD words i 0))
 
@@ -73,7 +73,7 @@ pub length-choices : (mins maxs optional : List ℕ) (n : ℕ) → length (joinB
 length-choices mins maxs optional n = length-join n 5 (choiceBytes mins maxs optional) (λ i h. length-choice mins maxs optional i)
 
 -- the bytes of the whole file are those that its counts give
-pub length-bytes : (counts : DayCounts) (lists : Parts) → Lengths counts lists → length (bytesOf (day counts lists)) ≡ placesOf 5 counts .end
+pub length-bytes : (counts : FileCounts) (lists : Parts) → Lengths counts lists → length (bytesOf (day counts lists)) ≡ placesOf 5 counts .end
 unfolding bytesOf
 length-bytes counts lists l =
     simp
@@ -81,7 +81,7 @@ length-bytes counts lists l =
     (omega arith)
 
 -- the longest file is room for every day, and no more than the day with every count at its limit takes
-pub end-most : {counts : DayCounts} → InRange counts → placesOf 5 counts .end ≤ longestFile
+pub end-most : {counts : FileCounts} → InRange counts → placesOf 5 counts .end ≤ longestFile
 end-most r = omega arith
 
 pub end-longest : placesOf 5 (record { choices = 64; slots = 24; choosers = 200; levels = 64; rows = 128 }) .end ≡ longestFile

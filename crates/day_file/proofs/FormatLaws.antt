@@ -1,4 +1,5 @@
--- A day and its file: each comes back from the other. The laws of windows and joined records hold for records of any width.
+-- A day and its file: each comes back from the other. The laws of windows and joined records hold for records
+-- of any width.
 use mathlib.Core.Path.{_≡_, refl, sym, _∙_, ap}
 use mathlib.Core.List.{List, [], _∷_, _++_, append-nil}
 use Prim.Native.Nat.{ℕ, _+_, _*_, _-_, _/_, _%_, _<_}
@@ -6,14 +7,14 @@ use native.Mathlib.Nat.{add-zero}
 use native.Mathlib.Omega.{arith}
 use lib.ListN.{length, getD, drop}
 use lib.Seq.{getD-take, getD-drop}
-use Rattle.lists.specs.Flat.{joinBelow}
-use Rattle.lists.specs.Pool.{window}
-use Rattle.lists.proofs.Flat.{list-ext, list-back, window-skip, window-join}
-use Rattle.constraint.specs.Row.{rowOf, rowNumber}
-use Rattle.constraint.proofs.RowLaws.{number-of-row, row-fits}
-use Rattle.day_file.specs.Day.{Parts, parts, Day, day}
+use Rattle.base_lists.specs.Flat.{joinBelow}
+use Rattle.base_lists.specs.Pool.{window}
+use Rattle.base_lists.proofs.Flat.{list-ext, list-back, window-skip, window-join}
+use Rattle.day_rows.specs.Row.{rowOf, rowNumber}
+use Rattle.day_rows.proofs.RowLaws.{number-of-row, row-fits}
+use Rattle.day_file.specs.FileDay.{Parts, parts, FileDay, day}
 use Rattle.day_file.specs.File.{word, wordAt, signBitFlipped, rowBytes, rowAt, placesOf, headBytes, lengthIn, versionIn, countsIn, choiceBytes, bytesOf, listsIn, dayIn}
-use Rattle.day_file.specs.declared.counts.DayCounts.{DayCounts}
+use Rattle.day_file.specs.declared.counts.FileCounts.{FileCounts}
 use Rattle.day_file.proofs.FileLaws.{Lengths, length-word, length-row, length-choice, length-head, length-choices, length-words}
 
 -- every entry is a byte, as it is of any file that code holds
@@ -36,7 +37,7 @@ unfolding rowAt rowNumber
 row-in l a =
     rw (byte-in l a 6 0 (omega arith), byte-in l a 6 1 (omega arith), word-in l a 6 2 (omega arith), word-in l a 6 4 (omega arith), add-zero)
 
--- what was put is read
+-- a number, a choice and a row that were put are read
 pub flipped-twice : (v : ℕ) → v < 65536 → signBitFlipped (signBitFlipped v) ≡ v
 unfolding signBitFlipped
 flipped-twice v h = omega arith
@@ -68,12 +69,12 @@ row-read-back number =
     let row = rowOf number in
     columns-read (row .kind) (row .left) (row .right) (row .extra) (row-fits number .extra) ∙ number-of-row number
 
--- lists with equal parts
+-- two days' lists with equal parts are equal
 parts-equal : {a a′ b b′ c c′ d d′ e e′ f f′ : List ℕ} → a ≡ a′ → b ≡ b′ → c ≡ c′ → d ≡ d′ → e ≡ e′ → f ≡ f′ → parts a b c d e f ≡ parts a′ b′ c′ d′ e′ f′
 parts-equal p q r s t u = rw (p, q, r, s, t, u)
 
--- what is written reads back
-module _ (counts : DayCounts) (lists : Parts) (k : Lengths counts lists) where
+-- the lists of a day that are written read back
+module _ (counts : FileCounts) (lists : Parts) (k : Lengths counts lists) where
   file : List ℕ
   file = bytesOf (day counts lists)
 
@@ -194,21 +195,21 @@ module _ (counts : DayCounts) (lists : Parts) (k : Lengths counts lists) where
       (list-ext (counts .rows) (λ i. rowAt file (placesOf 5 counts .rows + 6 * i)) (λ i. getD (lists .rows) i 0) rows-back ∙ list-back (lists .rows) (counts .rows) 0 (k .rows-long))
 
 -- the head reads back, whatever follows it
-pub counts-back : (counts : DayCounts) (lists : Parts) → countsIn (bytesOf (day counts lists)) ≡ counts
+pub counts-back : (counts : FileCounts) (lists : Parts) → countsIn (bytesOf (day counts lists)) ≡ counts
 unfolding bytesOf headBytes word wordAt
 counts-back counts lists =
     let e : counts .rows / 256 * 256 + counts .rows % 256 ≡ counts .rows = omega arith in
     ap (λ (n : ℕ). record { choices = counts .choices; slots = counts .slots; choosers = counts .choosers; levels = counts .levels; rows = n }) e
 
-pub version-back : (counts : DayCounts) (lists : Parts) → versionIn (bytesOf (day counts lists)) ≡ 1
+pub version-back : (counts : FileCounts) (lists : Parts) → versionIn (bytesOf (day counts lists)) ≡ 1
 unfolding bytesOf headBytes word
 version-back counts lists = refl
 
-pub length-back : (counts : DayCounts) (lists : Parts) → lengthIn (bytesOf (day counts lists)) ≡ placesOf 5 counts .end - 4
+pub length-back : (counts : FileCounts) (lists : Parts) → lengthIn (bytesOf (day counts lists)) ≡ placesOf 5 counts .end - 4
 unfolding bytesOf headBytes word wordAt lengthIn
 length-back counts lists = omega arith
 
-pub day-back : (d : Day) → Lengths (d .counts) (d .lists) → dayIn (bytesOf d) ≡ d
+pub day-back : (d : FileDay) → Lengths (d .counts) (d .lists) → dayIn (bytesOf d) ≡ d
 day-back d k =
-    ap (λ (c : DayCounts). day c (listsIn (bytesOf d) c)) (counts-back (d .counts) (d .lists))
+    ap (λ (c : FileCounts). day c (listsIn (bytesOf d) c)) (counts-back (d .counts) (d .lists))
     ∙ ap (day (d .counts)) (lists-back (d .counts) (d .lists) k)

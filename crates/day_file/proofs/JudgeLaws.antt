@@ -7,16 +7,16 @@ use native.Mathlib.Omega.{arith}
 use borrow.Author.Tests.{lt-ltb, le-ltb, le-leb, lt-leb}
 use lib.Dec.{ltb, leb}
 use lib.ListN.{getD}
-use Rattle.lists.specs.All.{allAtMost}
-use Rattle.lists.specs.Below.{allBelow}
-use Rattle.lists.specs.Flat.{listBelow}
-use Rattle.lists.proofs.Below.{all-more, one-fails}
-use Rattle.lists.proofs.Through.{all-ext}
-use Rattle.lists.proofs.Flat.{length-list, getD-list}
-use Rattle.constraint.specs.Row.{rowNumber}
-use Rattle.day_lists.specs.Levels.{levelsRise, lastLevel}
+use Rattle.base_lists.specs.All.{allAtMost}
+use Rattle.base_lists.specs.Below.{allBelow}
+use Rattle.base_lists.specs.Flat.{listBelow}
+use Rattle.base_lists.proofs.Below.{all-more, one-fails}
+use Rattle.base_lists.proofs.Through.{all-ext}
+use Rattle.base_lists.proofs.Flat.{length-list, getD-list}
+use Rattle.day_rows.specs.Row.{rowNumber}
+use Rattle.day_rows.specs.Levels.{levelsRise, lastLevel}
 use Rattle.day_file.specs.File.{wordAt, signBitFlipped, rowAt, countsIn}
-use Rattle.day_file.specs.declared.counts.DayCounts.{DayCounts}
+use Rattle.day_file.specs.declared.counts.FileCounts.{FileCounts}
 
 -- the columns that were read are the row's
 pub row-read : (file : List ℕ) (at : ℕ) {kind left right extra word number : ℕ}
@@ -27,11 +27,11 @@ row-read file at k l r w x n = n ∙ rw (k, l, r, x, w)
 
 -- the counts that were read are the file's
 pub counts-read : (file : List ℕ) {rows : ℕ} → rows ≡ wordAt file 9
-    → _≡_ {A = DayCounts} (record { choices = getD file 5 0; slots = getD file 6 0; choosers = getD file 7 0; levels = getD file 8 0; rows = rows }) (countsIn file)
+    → _≡_ {A = FileCounts} (record { choices = getD file 5 0; slots = getD file 6 0; choosers = getD file 7 0; levels = getD file 8 0; rows = rows }) (countsIn file)
 counts-read file e =
     ap (λ (rows : ℕ). record { choices = getD file 5 0; slots = getD file 6 0; choosers = getD file 7 0; levels = getD file 8 0; rows = rows }) e
 
--- levels that rise, as words of the file
+-- the test of levels that rise, on words of the file
 abbrev pub rising : List ℕ → ℕ → ℕ → Bool
 rising file at i = ltb (wordAt file (at + 2 * i)) (wordAt file (at + 2 * (i + 1)))
 
@@ -42,7 +42,7 @@ module _ (file : List ℕ) (at i : ℕ) {low high : ℕ} (h : high ≡ wordAt fi
   pub rise-more : allBelow i (rising file at) ≡ true → low < high → allBelow (i + 1) (rising file at) ≡ true
   rise-more a f = all-more (rising file at) i a (lt-ltb _ _ (rw (h, l) at f))
 
--- words of the file that are at most the limit
+-- the test of words of the file that are at most a limit
 abbrev pub under : List ℕ → ℕ → ℕ → ℕ → Bool
 under file at limit i = leb (wordAt file (at + 2 * i)) limit
 
@@ -53,7 +53,7 @@ module _ (file : List ℕ) (at limit i : ℕ) {v : ℕ} (e : v ≡ wordAt file (
   pub under-more : allBelow i (under file at limit) ≡ true → v ≤ limit → allBelow (i + 1) (under file at limit) ≡ true
   under-more a f = all-more (under file at limit) i a (le-leb _ _ (rw e at f))
 
--- the tests of lists made by place
+-- the tests of lists made by place are the tests on the bytes
 module _ (n : ℕ) (f : ℕ → ℕ) where
   pub at-most-list : (limit : ℕ) → allAtMost limit (listBelow n f) ≡ allBelow n (λ i. leb (f i) limit)
   unfolding allAtMost

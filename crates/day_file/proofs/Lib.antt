@@ -8,3 +8,4 @@ pub mod JudgeLaws
 pub mod Outcomes
 pub mod ReadLaws
 pub mod Sample
+pub mod WordOutcomes

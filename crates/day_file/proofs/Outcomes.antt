@@ -3,28 +3,28 @@ use mathlib.Core.Path.{_≡_, refl, ap}
 use mathlib.Core.Bool.{Bool}
 use mathlib.Core.List.{List}
 use Prim.Native.Nat.{ℕ}
-use Rattle.lists.proofs.Outcome.{no-two}
-use Rattle.constraint.specs.Told.{Told, done, refused, outcome}
-use Rattle.constraint.specs.declared.check.Counts.{Counts}
-use Rattle.constraint.proofs.ToldLaws.{refusalOf, refusal-back, one-outcome}
-use Rattle.day_file.specs.Day.{Parts, rowCounts, countsKeep}
+use Rattle.base_lists.proofs.Outcome.{no-two}
+use Rattle.day_rows.specs.Told.{Told, done, refused, outcome}
+use Rattle.day_rows.specs.declared.check.Counts.{Counts}
+use Rattle.day_rows.proofs.ToldLaws.{refusalOf, refusal-back, one-outcome}
+use Rattle.day_file.specs.FileDay.{Parts, rowCounts, fileCountsInRange}
 use Rattle.day_file.specs.File.{signBitFlipped}
 use Rattle.day_file.specs.Calls.{readTells, readOf}
-use Rattle.day_file.specs.declared.counts.DayCounts.{DayCounts}
+use Rattle.day_file.specs.declared.counts.FileCounts.{FileCounts}
 use Rattle.day_file.specs.declared.read.Read.{Read}
 use Rattle.day_file.specs.declared.read.Read.the-variants as read
 
-pub one-row-counts : (counts : DayCounts) {a b : Counts} → a ≡ rowCounts counts → b ≡ rowCounts counts → a ≡ b
+pub one-row-counts : (counts : FileCounts) {a b : Counts} → a ≡ rowCounts counts → b ≡ rowCounts counts → a ≡ b
 one-row-counts counts = no-two
 
-pub one-in-range : (counts : DayCounts) {a b : Bool} → a ≡ countsKeep counts → b ≡ countsKeep counts → a ≡ b
+pub one-in-range : (counts : FileCounts) {a b : Bool} → a ≡ fileCountsInRange counts → b ≡ fileCountsInRange counts → a ≡ b
 one-in-range counts = no-two
 
 pub one-flip : (v : ℕ) {a b : ℕ} → a ≡ signBitFlipped v → b ≡ signBitFlipped v → a ≡ b
 one-flip v = no-two
 
 -- the reader's answer, read back from what it tells
-abbrev pub readFrom : Told DayCounts → Read
+abbrev pub readFrom : Told FileCounts → Read
 readFrom (done counts) = read.Day counts
 readFrom (refused number carried) = read.Refused (refusalOf number carried)
 

@@ -6,25 +6,25 @@ use Prim.Native.Nat.{ℕ, _+_, _*_, _-_, _≤_, _<_}
 use borrow.Author.Tests.{le-leb, lt-leb, eq-eqb, ne-eqb, leb-true, eqb-true}
 use lib.Dec.{leb, eqb}
 use lib.ListN.{length, getD}
-use Rattle.lists.specs.All.{allAtMost}
-use Rattle.lists.specs.Below.{allBelow}
-use Rattle.lists.specs.Flat.{listBelow}
-use Rattle.lists.specs.Pool.{pad}
-use Rattle.constraint.specs.Check.{rowsJudged}
-use Rattle.constraint.specs.declared.check.Counts.{Counts}
-use Rattle.constraint.specs.declared.check.Takes.the-variants as takes
-use Rattle.constraint.specs.Told.{done, refused, Verdict, good, refuse, outcome}
-use Rattle.constraint.proofs.ToldLaws.{unless-done, then-done}
-use Rattle.day_lists.specs.Levels.{levelsRise, lastLevel}
-use Rattle.day_file.specs.Day.{Parts, parts, day, rowCounts, countsKeep, dayRowsJudged, poolsFull, padded}
+use Rattle.base_lists.specs.All.{allAtMost}
+use Rattle.base_lists.specs.Below.{allBelow}
+use Rattle.base_lists.specs.Flat.{listBelow}
+use Rattle.base_lists.specs.Pool.{pad}
+use Rattle.day_rows.specs.Check.{rowsJudged}
+use Rattle.day_rows.specs.declared.check.Counts.{Counts}
+use Rattle.day_rows.specs.declared.check.Takes.the-variants as takes
+use Rattle.day_rows.specs.Told.{done, refused, Verdict, good, refuse, outcome}
+use Rattle.day_rows.proofs.ToldLaws.{unless-done, then-done}
+use Rattle.day_rows.specs.Levels.{levelsRise, lastLevel}
+use Rattle.day_file.specs.FileDay.{Parts, parts, day, rowCounts, fileCountsInRange, dayRowsJudged, poolsFull, padded}
 use Rattle.day_file.specs.File.{wordAt, rowAt, placesOf, lengthIn, versionIn, countsIn, listsIn, dayIn}
 use Rattle.day_file.specs.Calls.{headJudged, bodyJudged, fileJudged, readOf}
-use Rattle.day_file.specs.declared.counts.DayCounts.{DayCounts}
+use Rattle.day_file.specs.declared.counts.FileCounts.{FileCounts}
 use Rattle.day_file.specs.declared.counts.Places.{Places}
 use Rattle.day_file.proofs.CountLaws.{Within, last-place, Full, full}
 use Rattle.day_file.proofs.JudgeLaws.{rising, under, at-most-list, rise-list, last-list}
 
--- the head: 11, 12, 1, 11
+-- the ways through a file's head: 11, 12, 1, 11
 module _ (file : List ℕ) where
   pub head-short : length file < 11 → refuse 11 ≡ headJudged file
   unfolding headJudged
@@ -43,9 +43,9 @@ module _ (file : List ℕ) where
       unfolding headJudged
       head-version n = rw (le-leb _ _ long, eq-eqb _ _ lengths, ne-eqb _ _ n)
 
-      module _ (v : versionIn file ≡ 1) {counts : DayCounts} (c : counts ≡ countsIn file) {b : Bool} (t : b ≡ countsKeep counts) where
-        keeps : countsKeep (countsIn file) ≡ b
-        keeps = sym (ap countsKeep c) ∙ sym t
+      module _ (v : versionIn file ≡ 1) {counts : FileCounts} (c : counts ≡ countsIn file) {b : Bool} (t : b ≡ fileCountsInRange counts) where
+        keeps : fileCountsInRange (countsIn file) ≡ b
+        keeps = sym (ap fileCountsInRange c) ∙ sym t
 
         pub head-counts : b ≡ false → refuse 1 ≡ headJudged file
         unfolding headJudged
@@ -53,7 +53,7 @@ module _ (file : List ℕ) where
 
         module _ (h : b ≡ true) {places : Places} (p : places ≡ placesOf 5 counts) where
           ends : places .end ≡ placesOf 5 (countsIn file) .end
-          ends = ap (λ (q : Places). q .end) p ∙ ap (λ (d : DayCounts). placesOf 5 d .end) c
+          ends = ap (λ (q : Places). q .end) p ∙ ap (λ (d : FileCounts). placesOf 5 d .end) c
 
           pub head-body : (places .end ≡ length file → ⊥) → refuse 11 ≡ headJudged file
           unfolding headJudged
@@ -63,12 +63,12 @@ module _ (file : List ℕ) where
           unfolding headJudged
           head-good e = rw (le-leb _ _ long, eq-eqb _ _ lengths, eq-eqb _ _ v, keeps ∙ h, eq-eqb _ _ (sym ends ∙ e))
 
--- what a good head says
+-- what a good head says of its file
 pub record Head (file : List ℕ) : Type 0 where
   pub long : 11 ≤ length file
   pub length-in : lengthIn file ≡ length file - 4
   pub version : versionIn file ≡ 1
-  pub counts : countsKeep (countsIn file) ≡ true
+  pub counts : fileCountsInRange (countsIn file) ≡ true
   pub end : placesOf 5 (countsIn file) .end ≡ length file
 
 pub head-says : (file : List ℕ) → headJudged file ≡ good → Head file
@@ -77,7 +77,7 @@ head-says file g =
     let long = unless-done (leb 11 (length file)) _ _ g in
     let said = unless-done (eqb (lengthIn file) (length file - 4)) _ _ (long .1) in
     let version = unless-done (eqb (versionIn file) 1) _ _ (said .1) in
-    let counts = unless-done (countsKeep (countsIn file)) _ _ (version .1) in
+    let counts = unless-done (fileCountsInRange (countsIn file)) _ _ (version .1) in
     let end = unless-done (eqb (placesOf 5 (countsIn file) .end) (length file)) _ _ (counts .1) in
     record {
       long = leb-true _ _ (long .0);
@@ -87,8 +87,8 @@ head-says file g =
       end = eqb-true _ _ (end .0);
     }
 
--- the body: 13, 3, 4, 5, each test on the file's bytes
-module _ (file : List ℕ) (counts : DayCounts) {places : Places} (p : places ≡ placesOf 5 counts) where
+-- the ways through a file's body: 13, 3, 4, 5, each test on the file's bytes
+module _ (file : List ℕ) (counts : FileCounts) {places : Places} (p : places ≡ placesOf 5 counts) where
   module _ {o : Bool} (ot : o ≡ allBelow (counts .choices) (λ i. leb (getD file (15 + 5 * i) 0) 1)) where
     optional-is : allAtMost 1 (listsIn file counts .optional) ≡ o
     unfolding listsIn
@@ -142,7 +142,7 @@ module _ (file : List ℕ) (counts : DayCounts) {places : Places} (p : places �
             ∙ ap (λ (c : Counts). rowsJudged c takes.Given (listBelow (counts .rows) (λ i. rowAt file (places .rows + 6 * i)))) a
             ∙ ap (λ (q : Places). rowsJudged (rowCounts counts) takes.Given (listBelow (counts .rows) (λ i. rowAt file (q .rows + 6 * i)))) p)
 
--- head, then body
+-- the whole file judged: the head, then the body
 module _ (file : List ℕ) {head : Verdict} (t : head ≡ headJudged file) where
   pub file-refused : {number : ℕ} {carried : List ℕ} → head ≡ refused number carried → refused number carried ≡ fileJudged file
   unfolding fileJudged
@@ -151,9 +151,9 @@ module _ (file : List ℕ) {head : Verdict} (t : head ≡ headJudged file) where
   pub file-head : head ≡ good → Head file
   file-head e = head-says file (sym t ∙ e)
 
-  pub file-body : head ≡ good → {counts : DayCounts} → counts ≡ countsIn file → {body : Verdict} → body ≡ bodyJudged (day counts (listsIn file counts)) → body ≡ fileJudged file
+  pub file-body : head ≡ good → {counts : FileCounts} → counts ≡ countsIn file → {body : Verdict} → body ≡ bodyJudged (day counts (listsIn file counts)) → body ≡ fileJudged file
   unfolding fileJudged
-  file-body e c b = rw (sym t ∙ e) (b ∙ ap (λ (d : DayCounts). bodyJudged (day d (listsIn file d))) c)
+  file-body e c b = rw (sym t ∙ e) (b ∙ ap (λ (d : FileCounts). bodyJudged (day d (listsIn file d))) c)
 
 -- a good file has a good head
 pub good-head : (file : List ℕ) → fileJudged file ≡ good → Head file
@@ -161,15 +161,15 @@ unfolding fileJudged
 good-head file g = head-says file (then-done (headJudged file) (bodyJudged (dayIn file)) g .0)
 
 -- the counts that were read, with what their head says
-module _ (file : List ℕ) (h : Head file) {counts : DayCounts} (c : counts ≡ countsIn file) where
-  pub counts-keep : countsKeep counts ≡ true
-  counts-keep = ap countsKeep c ∙ h .counts
+module _ (file : List ℕ) (h : Head file) {counts : FileCounts} (c : counts ≡ countsIn file) where
+  pub counts-keep : fileCountsInRange counts ≡ true
+  counts-keep = ap fileCountsInRange c ∙ h .counts
 
   pub counts-end : placesOf 5 counts .end ≡ length file
-  counts-end = ap (λ (d : DayCounts). placesOf 5 d .end) c ∙ h .end
+  counts-end = ap (λ (d : FileCounts). placesOf 5 d .end) c ∙ h .end
 
--- the six pools, filled
-pub filled : (file : List ℕ) (counts : DayCounts) {places : Places} → places ≡ placesOf 5 counts
+-- the six pools, filled one by one, are the file's lists padded
+pub filled : (file : List ℕ) (counts : FileCounts) {places : Places} → places ≡ placesOf 5 counts
     → {a b c d e f : ℕ} → Full a b c d e f
     → {mins maxs optional levels preferences rows : List ℕ}
     → mins ≡ pad a (listBelow (counts .choices) (λ k. wordAt file (11 + 5 * k)))
@@ -193,7 +193,7 @@ filled file counts {places} p full m x o l q r =
           ∙ ap (λ (z : Places). pad 128 (listBelow (counts .rows) (λ k. rowAt file (z .rows + 6 * k)))) p,
     )
 
--- the call
+-- the ways through `read_day`
 module _ (file : List ℕ) (pools : Parts) {b : Bool} (t : b ≡ poolsFull pools) where
   pub read-short : b ≡ false → outcome (refuse 2) pools ≡ readOf file pools
   unfolding readOf
@@ -207,9 +207,9 @@ module _ (file : List ℕ) (pools : Parts) {b : Bool} (t : b ≡ poolsFull pools
     pub read-head : judged ≡ good → Head file
     read-head e = good-head file (sym j ∙ e)
 
-    pub read-good : judged ≡ good → {counts : DayCounts} → counts ≡ countsIn file → {lists : Parts} → lists ≡ padded (listsIn file counts)
+    pub read-good : judged ≡ good → {counts : FileCounts} → counts ≡ countsIn file → {lists : Parts} → lists ≡ padded (listsIn file counts)
         → outcome (done counts) lists ≡ readOf file pools
     unfolding readOf
     read-good e {counts} c {lists} l =
         rw (sym t ∙ h, sym j ∙ e)
-        (ap (λ (z : Parts). outcome (done counts) z) l ∙ ap (λ (d : DayCounts). outcome (done d) (padded (listsIn file d))) c)
+        (ap (λ (z : Parts). outcome (done counts) z) l ∙ ap (λ (d : FileCounts). outcome (done d) (padded (listsIn file d))) c)

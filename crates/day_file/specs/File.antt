@@ -2,24 +2,26 @@
 use mathlib.Core.List.{List, [], _∷_, _++_}
 use Prim.Native.Nat.{ℕ, _+_, _*_, _-_, _/_, _%_}
 use lib.ListN.{length, getD}
-use Rattle.lists.specs.Flat.{listBelow, joinBelow}
-use Rattle.constraint.specs.Row.{rowOf, rowNumber}
-use Rattle.day_file.specs.Day.{Parts, parts, Day, day}
-use Rattle.day_file.specs.declared.counts.DayCounts.{DayCounts}
+use Rattle.base_lists.specs.Flat.{listBelow, joinBelow}
+use Rattle.day_rows.specs.Row.{rowOf, rowNumber}
+use Rattle.day_file.specs.FileDay.{Parts, parts, FileDay, day}
+use Rattle.day_file.specs.declared.counts.FileCounts.{FileCounts}
 use Rattle.day_file.specs.declared.counts.Places.{Places}
 
--- a number of two bytes, and the one that stands at a place
+-- a number as its two bytes, and the number whose two bytes stand at a place of a file
 unfoldable pub word : ℕ → List ℕ
 word v = v / 256 ∷ v % 256 ∷ []
 
 unfoldable pub wordAt : List ℕ → ℕ → ℕ
 wordAt file at = getD file at 0 * 256 + getD file (at + 1) 0
 
--- a number of sixteen bits with its highest bit turned over: from two's complement to 32,768 higher, and the same back
+-- a number of sixteen bits with its highest bit turned over: from two's complement to 32,768 higher, and the
+-- same back
 unfoldable pub signBitFlipped : ℕ → ℕ
 signBitFlipped v = (v + 32768) % 65536
 
--- 'rows as kind, left (1 each), right, extra (2 each, extra in two's complement)'
+-- a row as its six bytes, and the row whose bytes stand at a place: 'rows as kind, left (1 each), right,
+-- extra (2 each, extra in two's complement)'
 unfoldable pub rowBytes : ℕ → List ℕ
 rowBytes number =
     let row = rowOf number in
@@ -35,20 +37,22 @@ rowAt file at =
       extra = signBitFlipped (wordAt file (at + 4));
     })
 
--- where levels, preferences and rows start and the file ends, for choices of `wide` bytes each
-abbrev pub placesOf : ℕ → DayCounts → Places
-placesOf wide counts =
-    let levels = 11 + wide * counts .choices in
+-- where levels, preferences and rows start and the file ends, for choices of `width` bytes each
+abbrev pub placesOf : ℕ → FileCounts → Places
+placesOf width counts =
+    let levels = 11 + width * counts .choices in
     let preferences = levels + 2 * counts .levels in
     let rows = preferences + 2 * (counts .choosers * counts .choices) in
     record { levels = levels; preferences = preferences; rows = rows; end = rows + 6 * counts .rows }
 
--- 'over 26,827 bytes: 11', and '26,827 bytes for a file to be written': every count at its limit
+-- the longest file, every count at its limit: 'over 26,827 bytes: 11', and '26,827 bytes for a file to be
+-- written'
 abbrev pub longestFile : ℕ
 longestFile = 26827
 
--- 'Four bytes: length of the rest. Then version 1, C, S, H, L (a byte each), row count (2 bytes).'
-unfoldable pub headBytes : ℕ → DayCounts → List ℕ
+-- the head of a file, and what a head says: 'Four bytes: length of the rest. Then version 1, C, S, H, L (a
+-- byte each), row count (2 bytes).'
+unfoldable pub headBytes : ℕ → FileCounts → List ℕ
 headBytes version counts =
     let rest = placesOf 5 counts .end - 4 in
     word (rest / 65536)
@@ -61,7 +65,7 @@ lengthIn file = wordAt file 0 * 65536 + wordAt file 2
 abbrev pub versionIn : List ℕ → ℕ
 versionIn file = getD file 4 0
 
-abbrev pub countsIn : List ℕ → DayCounts
+abbrev pub countsIn : List ℕ → FileCounts
 countsIn file =
     record {
       choices = getD file 5 0;
@@ -71,12 +75,12 @@ countsIn file =
       rows = wordAt file 9;
     }
 
--- 'per choice min, max (2 each), optional (1)'
+-- the bytes of choice i: 'per choice min, max (2 each), optional (1)'
 unfoldable pub choiceBytes : List ℕ → List ℕ → List ℕ → ℕ → List ℕ
 choiceBytes mins maxs optional i = word (getD mins i 0) ++ (word (getD maxs i 0) ++ (getD optional i 0 ∷ []))
 
 -- the file of a day: 'Then per choice ..; levels (2 each); preferences chooser by chooser (2 each); rows ..'
-unfoldable pub bytesOf : Day → List ℕ
+unfoldable pub bytesOf : FileDay → List ℕ
 bytesOf d =
     let lists = d .lists in
     headBytes 1 (d .counts)
@@ -86,7 +90,7 @@ bytesOf d =
     ++ joinBelow (length (lists .rows)) (λ i. rowBytes (getD (lists .rows) i 0)))))
 
 -- the lists of a file with these counts
-unfoldable pub listsIn : List ℕ → DayCounts → Parts
+unfoldable pub listsIn : List ℕ → FileCounts → Parts
 listsIn file counts =
     let places = placesOf 5 counts in
     parts
@@ -97,6 +101,6 @@ listsIn file counts =
     (listBelow (counts .choosers * counts .choices) (λ i. wordAt file (places .preferences + 2 * i)))
     (listBelow (counts .rows) (λ i. rowAt file (places .rows + 6 * i)))
 
--- the day in a file
-abbrev pub dayIn : List ℕ → Day
+-- the day in a file: the counts of its head, and its lists
+abbrev pub dayIn : List ℕ → FileDay
 dayIn file = day (countsIn file) (listsIn file (countsIn file))

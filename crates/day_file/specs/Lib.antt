@@ -1,3 +1,3 @@
-pub mod Day
-pub mod File
 pub mod Calls
+pub mod File
+pub mod FileDay

@@ -1,13 +1,14 @@
-// The counts that a day file carries, their ranges, and where each part of the file stands.
-use constraint::check::Counts;
-use constraint::check::Takes;
+// `FileCounts`, the counts that a day file carries: their ranges, and where each part of the file stands.
+use day_rows::check::Counts;
+use day_rows::check::Takes;
 ghost use mathlib.Core.Path.{_≡_};
 ghost use mathlib.Core.Bool.{true};
-ghost use Rattle.day_file.specs.Day.{rowCounts, countsKeep};
+ghost use Rattle.day_file.specs.FileDay.{rowCounts, fileCountsInRange};
 ghost use Rattle.day_file.specs.File.{placesOf};
 
-// 'version 1, C, S, H, L (a byte each), row count (2 bytes)': the counts, as a call is given them.
-pub struct DayCounts {
+// The counts of a day file, 'C, S, H, L (a byte each), row count (2 bytes)', as a call is given them: any
+// numbers.
+pub struct FileCounts {
     pub choices: usize,
     pub slots: usize,
     pub choosers: usize,
@@ -23,8 +24,8 @@ pub struct Places {
     pub end: usize,
 }
 
-impl DayCounts {
-    // The counts that the row check takes.
+impl FileCounts {
+    // The counts of a file that the row check takes: all but the levels.
     pub fn for_rows(self) -> Counts
         ensures { λ r. ⌜ r ≡ rowCounts self ⌝ }
     {
@@ -36,11 +37,11 @@ impl DayCounts {
         }
     }
 
-    // Whether each count is in its range; a day has at least one level.
+    // Whether each count of a file is in its range; a day has at least one level.
     pub fn in_range(self) -> bool
-        ensures { λ r. ⌜ r ≡ countsKeep self ⌝ }
+        ensures { λ r. ⌜ r ≡ fileCountsInRange self ⌝ }
     {
-        if !constraint::check::counts_in_range(self.for_rows(), Takes::Given) {
+        if !day_rows::check::counts_in_range(self.for_rows(), Takes::Given) {
             return false;
         }
         if self.levels < 1 {
@@ -51,7 +52,7 @@ impl DayCounts {
 
     // Where the parts of a file with these counts stand.
     pub(crate) fn places(self) -> Places
-        requires { ⌜ countsKeep self ≡ true ⌝ }
+        requires { ⌜ fileCountsInRange self ≡ true ⌝ }
         ensures { λ r. ⌜ r ≡ placesOf 5 self ⌝ }
     {
         let levels = 11 + 5 * self.choices;

@@ -1,5 +1,6 @@
 // Reading a day file: the bytes are judged first, then the pools are filled.
-use super::counts::DayCounts;
+use super::counts::FileCounts;
+use super::file_words::rest_of;
 use super::fill::fill_optional;
 use super::fill::fill_rows;
 use super::fill::fill_words;
@@ -8,26 +9,25 @@ use super::judge::optional_in;
 use super::judge::preferences_in;
 use super::judge::rows_in;
 use super::word::word_at;
-use constraint::check::Checked;
-use constraint::refusal::Refusal;
-use file_words::rest_of;
+use day_rows::check::Checked;
+use day_rows::refusal::Refusal;
 ghost use mathlib.Core.Path.{_≡_};
 ghost use mathlib.Core.Bool.{true};
 ghost use Prim.Native.Nat.{_≤_};
 ghost use lib.ListN.{length};
-ghost use Rattle.constraint.specs.Check.{checkedTells};
-ghost use Rattle.constraint.specs.Told.{outcome};
-ghost use Rattle.day_file.specs.Day.{parts, countsKeep, poolsFull, lengthsFull, padded, day};
+ghost use Rattle.day_rows.specs.Check.{checkedTells};
+ghost use Rattle.day_rows.specs.Told.{outcome};
+ghost use Rattle.day_file.specs.FileDay.{parts, fileCountsInRange, poolsFull, lengthsFull, padded, day};
 ghost use Rattle.day_file.specs.File.{lengthIn, countsIn, placesOf, listsIn};
 ghost use Rattle.day_file.specs.Calls.{headJudged, bodyJudged, fileJudged, readTells, readOf};
 
-// What reading answers: the counts of the day that stands in the pools, or why there is none.
+// What reading answers: the `FileCounts` of the day that stands in the pools, or why there is none.
 pub enum Read {
-    Day(DayCounts),
+    Day(FileCounts),
     Refused(Refusal),
 }
 
-// 'Four bytes: length of the rest'.
+// The length that a file tells of itself: 'Four bytes: length of the rest'.
 fn length_in(file: &[u8]) -> usize
     requires { ⌜ 4 ≤ length (now file) ⌝ }
     ensures { λ r. ⌜ r ≡ lengthIn (now (file .entry)) ⌝ }
@@ -37,12 +37,12 @@ fn length_in(file: &[u8]) -> usize
     high * 65536 + low
 }
 
-// 'C, S, H, L (a byte each), row count (2 bytes)'.
-fn counts_in(file: &[u8]) -> DayCounts
+// The counts that a file carries: 'C, S, H, L (a byte each), row count (2 bytes)'.
+fn counts_in(file: &[u8]) -> FileCounts
     requires { ⌜ 11 ≤ length (now file) ⌝ }
     ensures { λ r. ⌜ r ≡ countsIn (now (file .entry)) ⌝ }
 {
-    DayCounts {
+    FileCounts {
         choices: file[5] as usize,
         slots: file[6] as usize,
         choosers: file[7] as usize,
@@ -51,7 +51,7 @@ fn counts_in(file: &[u8]) -> DayCounts
     }
 }
 
-// 'a file goes 11, 12, 1, 11 for the counted body'.
+// A file's head judged: 'a file goes 11, 12, 1, 11 for the counted body'.
 fn judge_head(file: &[u8]) -> Checked
     ensures { λ r. ⌜ checkedTells r ≡ headJudged (now (file .entry)) ⌝ }
 {
@@ -74,9 +74,9 @@ fn judge_head(file: &[u8]) -> Checked
     Checked::Good
 }
 
-// '13, 3, 4, 5', of a file whose head is good.
-fn judge_body(file: &[u8], counts: DayCounts) -> Checked
-    requires { ⌜ countsKeep counts ≡ true ⌝ ∗ ⌜ placesOf 5 counts .end ≡ length (now file) ⌝ }
+// The body of a file whose head is good, judged: '13, 3, 4, 5'.
+fn judge_body(file: &[u8], counts: FileCounts) -> Checked
+    requires { ⌜ fileCountsInRange counts ≡ true ⌝ ∗ ⌜ placesOf 5 counts .end ≡ length (now file) ⌝ }
     ensures { λ r. ⌜ checkedTells r ≡ bodyJudged (day counts (listsIn (now (file .entry)) counts)) ⌝ }
 {
     let places = counts.places();
@@ -98,7 +98,7 @@ fn judge_body(file: &[u8], counts: DayCounts) -> Checked
     rows_in(file, places.rows, counts.rows, counts.for_rows())
 }
 
-// The whole file, judged with no pool touched.
+// The whole file judged, head and body, with no pool touched.
 fn judge_file(file: &[u8]) -> Checked
     ensures { λ r. ⌜ checkedTells r ≡ fileJudged (now (file .entry)) ⌝ }
 {
@@ -138,10 +138,10 @@ fn pools_full(
     rows == 128
 }
 
-// The lists of a good file, each from the front of its pool.
+// Fills the pools with the lists of a good file, each from the front of its pool, zeros past it.
 fn fill_pools(
     file: &[u8],
-    counts: DayCounts,
+    counts: FileCounts,
     mins: &mut [u16],
     maxs: &mut [u16],
     optional: &mut [u8],
@@ -149,8 +149,14 @@ fn fill_pools(
     preferences: &mut [u16],
     rows: &mut [u64],
 )
-    requires { ⌜ countsKeep counts ≡ true ⌝ ∗ ⌜ placesOf 5 counts .end ≡ length (now file) ⌝ ∗ ⌜ poolsFull (parts (now mins) (now maxs) (now optional) (now levels) (now preferences) (now rows)) ≡ true ⌝ }
-    ensures { λ _. ⌜ parts (now (mins .exit)) (now (maxs .exit)) (now (optional .exit)) (now (levels .exit)) (now (preferences .exit)) (now (rows .exit)) ≡ padded (listsIn (now (file .entry)) counts) ⌝ }
+    requires { let pools = parts (now mins) (now maxs) (now optional) (now levels) (now preferences) (now rows) in
+        ⌜ fileCountsInRange counts ≡ true ⌝
+        ∗ ⌜ placesOf 5 counts .end ≡ length (now file) ⌝
+        ∗ ⌜ poolsFull pools ≡ true ⌝ }
+    ensures { λ _.
+        let filled = parts (now (mins .exit)) (now (maxs .exit)) (now (optional .exit))
+        (now (levels .exit)) (now (preferences .exit)) (now (rows .exit)) in
+        ⌜ filled ≡ padded (listsIn (now (file .entry)) counts) ⌝ }
 {
     let places = counts.places();
     fill_words(file, 11, 5, counts.choices, mins);
@@ -177,7 +183,12 @@ pub fn read_day(
     preferences: &mut [u16],
     rows: &mut [u64],
 ) -> Read
-    ensures { λ r. ⌜ outcome (readTells r) (parts (now (mins .exit)) (now (maxs .exit)) (now (optional .exit)) (now (levels .exit)) (now (preferences .exit)) (now (rows .exit))) ≡ readOf (now (file .entry)) (parts (now (mins .entry)) (now (maxs .entry)) (now (optional .entry)) (now (levels .entry)) (now (preferences .entry)) (now (rows .entry))) ⌝ }
+    ensures { λ r.
+        let before = parts (now (mins .entry)) (now (maxs .entry)) (now (optional .entry))
+        (now (levels .entry)) (now (preferences .entry)) (now (rows .entry)) in
+        let after = parts (now (mins .exit)) (now (maxs .exit)) (now (optional .exit))
+        (now (levels .exit)) (now (preferences .exit)) (now (rows .exit)) in
+        ⌜ outcome (readTells r) after ≡ readOf (now (file .entry)) before ⌝ }
 {
     if !pools_full(
         mins.len(),

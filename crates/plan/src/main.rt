@@ -2,9 +2,9 @@
 use libc::STDERR_FILENO;
 use libc::STDIN_FILENO;
 use libc::STDOUT_FILENO;
-use plan_lines::lines::LONGEST_TEXT;
-use plan_text::text::plan_text;
-use planner::made::Made;
+use text_day::made::Made;
+use text_lines::plan_lines::LONGEST_TEXT;
+use text_plan::text::plan_text;
 ghost use mathlib.Core.Path.{_≡_};
 ghost use lib.ListN.{length};
 
@@ -22,7 +22,7 @@ fn text_pool() -> [u8; LONGEST_TEXT]
     [0; LONGEST_TEXT]
 }
 
-// One line on standard error that says what is expected.
+// Writes one line on standard error that says what is expected.
 fn say_expected() {
     io::write_all(
         STDERR_FILENO,
@@ -38,12 +38,12 @@ fn front(text: &[u8], size: usize) -> &[u8] {
     &text[..size]
 }
 
-// Writes it.
+// Writes the text on standard output.
 fn write_text(text: &[u8], size: usize) {
     io::write_all(STDOUT_FILENO, front(text, size));
 }
 
-// The text for the file on standard input.
+// Writes the text for the file on standard input.
 fn tell() {
     let mut file = file_pool();
     let size = io::read_full(STDIN_FILENO, &mut file);

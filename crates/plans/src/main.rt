@@ -2,19 +2,21 @@
 use libc::STDERR_FILENO;
 use libc::STDIN_FILENO;
 use libc::STDOUT_FILENO;
-use planner::made::Made;
-use plans_text::text::LONGEST_TEXT;
-use plans_text::text::plans_text;
-use texts::number::Number;
-use texts::number::number_of;
+use text_day::made::Made;
+use text_lines::number::Number;
+use text_lines::number::number_of;
+use text_plans::text::LONGEST_TEXT;
+use text_plans::text::plans_text;
 ghost use mathlib.Core.Path.{_≡_};
 ghost use lib.ListN.{length};
 
-// What is left out counts as these (docs/PLANS.md).
+// The number of the first plan where FIRST is left out (docs/PLANS.md).
 const FIRST: u64 = 0;
 
+// The room of the page where ROOM is left out.
 const ROOM: u64 = 100;
 
+// The budget where BUDGET is left out.
 const BUDGET: u64 = 2_000_000;
 
 // Room for a file, and for one byte more that shows that it is too long.
@@ -41,7 +43,7 @@ fn argument(at: usize, default: u64) -> Number {
     number_of(&bytes[..count])
 }
 
-// One line on standard error that says what is expected.
+// Writes one line on standard error that says what is expected.
 fn say_expected() {
     io::write_all(
         STDERR_FILENO,
@@ -57,12 +59,12 @@ fn front(text: &[u8], size: usize) -> &[u8] {
     &text[..size]
 }
 
-// Writes it.
+// Writes the text on standard output.
 fn write_text(text: &[u8], size: usize) {
     io::write_all(STDOUT_FILENO, front(text, size));
 }
 
-// The text for the file on standard input.
+// Writes the text for the file on standard input.
 fn list(first: u64, room: u64, budget: u64) {
     let mut file = file_pool();
     let size = io::read_full(STDIN_FILENO, &mut file);

@@ -1,18 +1,17 @@
 // Replays analyses of critical sets whose answers the Rust gave: the sets, the bound, and each level's list.
-use cases::Next;
-use cases::Tally;
-use cases::byte;
-use cases::ended;
-use cases::number;
-use cases::plus;
-use cases::word;
-use constraint::refusal::Refusal;
-use critical_set_analysis::analysis::Analysis;
-use critical_set_analysis::analysis::Analyzed;
-use critical_set_analysis::analysis::analyze;
-use critical_set_analysis::day::DayCounts;
-use critical_set_lists::level_list::Listed;
-use critical_set_lists::level_list::level_list;
+use day_rows::refusal::Refusal;
+use sets_analysis::analysis::Analysis;
+use sets_analysis::analysis::Analyzed;
+use sets_analysis::analysis::analyze;
+use sets_analysis::day::SetsCounts;
+use sets_levels::level_list::Listed;
+use sets_levels::level_list::level_list;
+use test_cases::Tally;
+use test_cases::byte;
+use test_cases::number;
+use test_cases::plus;
+use test_cases::replay::Replay;
+use test_cases::word;
 
 // What a pool holds before a call, so that what the call left alone shows.
 const BLANK: u64 = 119;
@@ -110,7 +109,8 @@ fn lists_agree(
     list_agrees(bytes, at, limit, levels, masks, set_levels, count)
 }
 
-// Whether the answer, told from a place on, is this one: 0, the number of sets kept, the bound, the sets and the lists.
+// Whether the answer, told from a place on, is this one: 0, the number of sets kept, the bound, the sets and
+// the lists.
 fn answer_agrees(
     bytes: &[u8],
     at: usize,
@@ -138,7 +138,7 @@ fn answer_agrees(
     lists_agree(bytes, from, limit, levels, masks, set_levels, count)
 }
 
-// Whether the answer is 7, with both pools all zero.
+// Whether a refusal is the one told: 7, with both pools all zero.
 fn refusal_agrees(bytes: &[u8], at: usize, why: Refusal, masks: &[u64], levels: &[u16]) -> bool {
     if byte(bytes, at) != 1 {
         return false;
@@ -152,11 +152,12 @@ fn refusal_agrees(bytes: &[u8], at: usize, why: Refusal, masks: &[u64], levels: 
     levels_agree(b"", 0, 0, levels)
 }
 
-// One day whose columns are read already; the analysis, the limit and the answer stand from a place on.
+// Whether a day whose columns are read is answered as the Rust did: the analysis, the limit and the answer
+// stand from a place on.
 fn agrees_at(
     bytes: &[u8],
     at: usize,
-    counts: DayCounts,
+    counts: SetsCounts,
     mins: &[u16],
     levels: &[u16],
     preferences: &[u16],
@@ -189,9 +190,10 @@ fn agrees_at(
     }
 }
 
-// One case: C, S, H, L, the mins, the levels, the preferences, then what is asked and the answer.
+// Whether one case is answered as the Rust did: C, S, H, L, the mins, the levels, the preferences, then what
+// is asked and the answer.
 fn agrees(bytes: &[u8]) -> bool {
-    let counts = DayCounts {
+    let counts = SetsCounts {
         choices: byte(bytes, 0) as usize,
         slots: byte(bytes, 1) as usize,
         choosers: byte(bytes, 2) as usize,
@@ -203,37 +205,30 @@ fn agrees(bytes: &[u8]) -> bool {
     let cells = counts.choosers * counts.choices;
     let levels_at = 4 + 2 * counts.choices;
     let preferences_at = levels_at + 2 * counts.levels;
-    cases::read_words(bytes, 4, &mut mins);
-    cases::read_words(bytes, levels_at, &mut levels);
-    cases::read_words(bytes, preferences_at, &mut preferences);
+    test_cases::read_words(bytes, 4, &mut mins);
+    test_cases::read_words(bytes, levels_at, &mut levels);
+    test_cases::read_words(bytes, preferences_at, &mut preferences);
     agrees_at(
         bytes,
         preferences_at + 2 * cells,
         counts,
-        cases::first_words(&mins, counts.choices),
-        cases::first_words(&levels, counts.levels),
-        cases::first_words(&preferences, cells),
+        test_cases::first_words(&mins, counts.choices),
+        test_cases::first_words(&levels, counts.levels),
+        test_cases::first_words(&preferences, cells),
     )
 }
 
-// Every record of the file.
-fn replay(file: i32, buffer: &mut [u8]) -> Tally {
-    let mut tally = Tally::new();
-    let mut left = 0x1_0000_0000u64;
-    while 0 < left {
-        let next = cases::read_next(file, buffer);
-        let Next::Record(_) = next else {
-            return ended(next, tally);
-        };
-        tally = tally.with(agrees(buffer));
-        left -= 1;
+// Judges every record of the file of cases.
+fn replay(record: &mut [u8]) -> Tally {
+    let mut run = Replay::of(b"cases", record);
+    while 0 < run.left {
+        run = run.next(agrees(record), record);
     }
-    tally
+    run.tally
 }
 
 fn main() {
-    let file = cases::open();
-    let mut buffer = [0u8; 32768];
-    let tally = replay(file, &mut buffer);
+    let mut record = [0u8; 32768];
+    let tally = replay(&mut record);
     tally.tell(b"critical_sets");
 }

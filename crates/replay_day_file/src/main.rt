@@ -1,107 +1,33 @@
 // Replays readings of day files, good ones and damaged ones, whose answers were told from document 01 alone.
-use cases::Next;
-use cases::Tally;
-use cases::byte;
-use cases::ended;
-use cases::is_filled;
-use cases::number;
-use cases::plus;
-use cases::word;
-use constraint::refusal::Refusal;
-use day_file::counts::DayCounts;
+use day_file::counts::FileCounts;
 use day_file::read::Read;
 use day_file::read::read_day;
+use day_rows::refusal::Refusal;
+use test_cases::Tally;
+use test_cases::byte;
+use test_cases::is_filled;
+use test_cases::parts::rows_agree;
+use test_cases::parts::rows_are;
+use test_cases::parts::words_agree;
+use test_cases::parts::words_are;
+use test_cases::plus;
+use test_cases::replay::Replay;
+use test_cases::same;
+use test_cases::word;
 
 // What the pools hold before a call, to see that a refusal leaves them.
 const BEFORE: u8 = 9;
 
-// Whether a pool holds the n words from a place on, and zeros past them.
-fn words_agree(bytes: &[u8], from: usize, n: usize, pool: &[u16]) -> bool {
-    let mut at = from;
-    let mut i = 0;
-    while i < pool.len() {
-        if pool[i] != word_below(bytes, at, i, n) {
-            return false;
-        }
-        at = plus(at, 2);
-        i += 1;
-    }
-    true
-}
-
-// Word i of n, 0 past them.
-fn word_below(bytes: &[u8], at: usize, i: usize, n: usize) -> u16 {
-    if n <= i {
-        return 0;
-    }
-    word(bytes, at)
-}
-
-// The same for bytes.
+// Whether a pool holds the n bytes from a place on, and zeros past them.
 fn bytes_agree(bytes: &[u8], from: usize, n: usize, pool: &[u8]) -> bool {
-    let mut i = 0;
-    while i < pool.len() {
-        if pool[i] != byte_below(bytes, plus(from, i), i, n) {
-            return false;
-        }
-        i += 1;
+    if !same(pool, 0, bytes, from, n) {
+        return false;
     }
-    true
-}
-
-fn byte_below(bytes: &[u8], at: usize, i: usize, n: usize) -> u8 {
-    if n <= i {
-        return 0;
-    }
-    byte(bytes, at)
-}
-
-// The same for rows.
-fn rows_agree(bytes: &[u8], from: usize, n: usize, pool: &[u64]) -> bool {
-    let mut at = from;
-    let mut i = 0;
-    while i < pool.len() {
-        if pool[i] != number_below(bytes, at, i, n) {
-            return false;
-        }
-        at = plus(at, 8);
-        i += 1;
-    }
-    true
-}
-
-fn number_below(bytes: &[u8], at: usize, i: usize, n: usize) -> u64 {
-    if n <= i {
-        return 0;
-    }
-    number(bytes, at)
-}
-
-// Whether a pool is as it was before the call.
-fn words_kept(pool: &[u16]) -> bool {
-    let mut i = 0;
-    while i < pool.len() {
-        if pool[i] != BEFORE as u16 {
-            return false;
-        }
-        i += 1;
-    }
-    true
-}
-
-fn rows_kept(pool: &[u64]) -> bool {
-    let mut i = 0;
-    while i < pool.len() {
-        if pool[i] != BEFORE as u64 {
-            return false;
-        }
-        i += 1;
-    }
-    true
+    is_filled(pool, n, 0)
 }
 
 // Whether the counts are those that stand from a place on.
-fn counts_agree(bytes: &[u8], at: usize, counts: DayCounts) -> bool {
+fn counts_agree(bytes: &[u8], at: usize, counts: FileCounts) -> bool {
     if counts.choices != byte(bytes, at) as usize {
         return false;
     }
@@ -156,6 +82,7 @@ fn pools_agree(
     }
 }
 
+// Whether every pool is as it was before the call.
 fn all_kept(
     mins: &[u16],
     maxs: &[u16],
@@ -164,28 +91,29 @@ fn all_kept(
     preferences: &[u16],
     rows: &[u64],
 ) -> bool {
-    if !words_kept(mins) {
+    if !words_are(mins, BEFORE as u16) {
         return false;
     }
-    if !words_kept(maxs) {
+    if !words_are(maxs, BEFORE as u16) {
         return false;
     }
     if !is_filled(optional, 0, BEFORE) {
         return false;
     }
-    if !words_kept(levels) {
+    if !words_are(levels, BEFORE as u16) {
         return false;
     }
-    if !words_kept(preferences) {
+    if !words_are(preferences, BEFORE as u16) {
         return false;
     }
-    rows_kept(rows)
+    rows_are(rows, BEFORE as u64)
 }
 
+// Whether the pools hold the day whose lists stand from a place on, and zeros past them.
 fn day_agrees(
     bytes: &[u8],
     from: usize,
-    counts: DayCounts,
+    counts: FileCounts,
     mins: &[u16],
     maxs: &[u16],
     optional: &[u8],
@@ -194,11 +122,11 @@ fn day_agrees(
     rows: &[u64],
 ) -> bool {
     let c = counts.choices;
-    if !words_agree(bytes, from, c, mins) {
+    if !words_agree(bytes, from, c, mins, 0) {
         return false;
     }
     let at = plus(plus(from, c), c);
-    if !words_agree(bytes, at, c, maxs) {
+    if !words_agree(bytes, at, c, maxs, 0) {
         return false;
     }
     let at = plus(plus(at, c), c);
@@ -208,29 +136,29 @@ fn day_agrees(
     lists_agree(bytes, plus(at, c), counts, levels, preferences, rows)
 }
 
-// Levels, preferences and rows, from a place on.
+// Whether the pools hold the levels, preferences and rows that stand from a place on.
 fn lists_agree(
     bytes: &[u8],
     from: usize,
-    counts: DayCounts,
+    counts: FileCounts,
     levels: &[u16],
     preferences: &[u16],
     rows: &[u64],
 ) -> bool {
     let l = counts.levels;
-    if !words_agree(bytes, from, l, levels) {
+    if !words_agree(bytes, from, l, levels, 0) {
         return false;
     }
     let at = plus(plus(from, l), l);
     let seats = seats_of(counts);
-    if !words_agree(bytes, at, seats, preferences) {
+    if !words_agree(bytes, at, seats, preferences, 0) {
         return false;
     }
     rows_agree(bytes, plus(plus(at, seats), seats), counts.rows, rows)
 }
 
 // How many preferences a day has; its counts are small.
-fn seats_of(counts: DayCounts) -> usize {
+fn seats_of(counts: FileCounts) -> usize {
     let choices = counts.choices;
     let choosers = counts.choosers;
     if 64 < choices {
@@ -242,7 +170,7 @@ fn seats_of(counts: DayCounts) -> usize {
     choices * choosers
 }
 
-// Whether the answer itself is the expected one.
+// Whether the call's answer, apart from the pools, is the expected one.
 fn answer_agrees(bytes: &[u8], at: usize, answer: Read) -> bool {
     match answer {
         Read::Day(counts) => {
@@ -255,7 +183,7 @@ fn answer_agrees(bytes: &[u8], at: usize, answer: Read) -> bool {
     }
 }
 
-// One file, read into pools that hold something before; its answer stands from a place on.
+// Whether one file, read into pools that hold something before, is answered as told from a place on.
 fn file_agrees(bytes: &[u8], at: usize, file: &[u8]) -> bool {
     let mut mins = [BEFORE as u16; 64];
     let mut maxs = [BEFORE as u16; 64];
@@ -288,7 +216,7 @@ fn file_agrees(bytes: &[u8], at: usize, file: &[u8]) -> bool {
     )
 }
 
-// One case: a file with its length before it, then the answer.
+// Whether one case is answered as told: a file with its length before it, then the answer.
 fn agrees(bytes: &[u8]) -> bool {
     let size = (word(bytes, 0) as usize) * 65536 + word(bytes, 2) as usize;
     let end = size + 4;
@@ -298,24 +226,17 @@ fn agrees(bytes: &[u8]) -> bool {
     file_agrees(bytes, end, &bytes[4..end])
 }
 
-// Every record of the file.
-fn replay(file: i32, buffer: &mut [u8]) -> Tally {
-    let mut tally = Tally::new();
-    let mut left = 0x1_0000_0000u64;
-    while 0 < left {
-        let next = cases::read_next(file, buffer);
-        let Next::Record(_) = next else {
-            return ended(next, tally);
-        };
-        tally = tally.with(agrees(buffer));
-        left -= 1;
+// Judges every record of the file of cases.
+fn replay(record: &mut [u8]) -> Tally {
+    let mut run = Replay::of(b"cases", record);
+    while 0 < run.left {
+        run = run.next(agrees(record), record);
     }
-    tally
+    run.tally
 }
 
 fn main() {
-    let file = cases::open();
-    let mut buffer = [0u8; 65536];
-    let tally = replay(file, &mut buffer);
+    let mut record = [0u8; 65536];
+    let tally = replay(&mut record);
     tally.tell(b"day_file");
 }

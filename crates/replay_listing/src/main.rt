@@ -1,67 +1,30 @@
-// Replays listings whose answers a brute force gave: totals, nodes, every page of several sizes, and budgets around the node count. Each page is asked of both calls, of the listing and of the walk.
-use cases::BLANK;
-use cases::Next;
-use cases::Tally;
-use cases::byte;
-use cases::ended;
-use cases::fill;
-use cases::first_bytes;
-use cases::first_rows;
-use cases::first_words;
-use cases::is_filled;
-use cases::number;
-use cases::plus;
-use cases::word;
-use constraint::check::Counts;
-use expected_pages::Expected;
-use expected_pages::budgets_agree;
-use expected_pages::page_agrees;
-use expected_pages::times;
-use listing::list_plans::Listed;
-use listing::list_plans::list_plans;
-use page_answers::page::Paged;
-use plan_pages::page::list_page;
-ghost use mathlib.Core.Path.{_≡_};
-ghost use lib.ListN.{length};
+// Replays listings whose answers a brute force gave: totals, nodes, every page of several sizes, and budgets
+// around the node count. Each page is asked of both calls, of the listing and of the walk.
+use day_rows::check::Counts;
+use expected::Expected;
+use expected::budgets_agree;
+use expected::page_agrees;
+use expected::times;
+use list_all::list_plans::Listed;
+use list_all::list_plans::list_plans;
+use list_page::page::list_page;
+use list_starts::page_end::Paged;
+use test_cases::BLANK;
+use test_cases::Tally;
+use test_cases::byte;
+use test_cases::fill;
+use test_cases::first_bytes;
+use test_cases::first_rows;
+use test_cases::first_words;
+use test_cases::is_filled;
+use test_cases::number;
+use test_cases::read_bytes;
+use test_cases::read_numbers;
+use test_cases::read_words;
+use test_cases::replay::Replay;
+use test_cases::word;
 
-// 64 words from a place on, high byte first.
-fn read_words(bytes: &[u8], at: usize) -> [u16; 64]
-    ensures { λ r. ⌜ 64 ≡ length r ⌝ }
-{
-    let mut words = [0u16; 64];
-    let mut i = 0;
-    while i < 64 {
-        words[i] = word(bytes, plus(at, plus(i, i)));
-        i += 1;
-    }
-    words
-}
-
-// 64 bytes from a place on.
-fn read_bytes(bytes: &[u8], at: usize) -> [u8; 64]
-    ensures { λ r. ⌜ 64 ≡ length r ⌝ }
-{
-    let mut flags = [0u8; 64];
-    let mut i = 0;
-    while i < 64 {
-        flags[i] = byte(bytes, plus(at, i));
-        i += 1;
-    }
-    flags
-}
-
-// 16 rows from a place on, by their numbers.
-fn read_rows(bytes: &[u8], at: usize) -> [u64; 16]
-    ensures { λ r. ⌜ 16 ≡ length r ⌝ }
-{
-    let mut rows = [0u64; 16];
-    let mut i = 0;
-    while i < 16 {
-        rows[i] = number(bytes, plus(at, times(8, i)));
-        i += 1;
-    }
-    rows
-}
+mod expected;
 
 // Most pages of one size that a day is read in: all that it has, or the first few of the largest days.
 fn most_pages(nodes: u64) -> u64 {
@@ -71,7 +34,7 @@ fn most_pages(nodes: u64) -> u64 {
     5
 }
 
-// Every page of a size, and one past the end.
+// Whether every page of a size, and one past the end, is the expected one.
 fn pages_agree(
     counts: Counts,
     mins: &[u16],
@@ -129,7 +92,7 @@ fn lent_turns(
     is_filled(lent, 0, BLANK)
 }
 
-// One node too few: out of turns.
+// Whether a budget of one node too few runs out of turns.
 fn turns_agree(
     counts: Counts,
     mins: &[u16],
@@ -157,7 +120,18 @@ fn turns_agree(
     )
 }
 
-// Every page of several sizes.
+// The sizes of the pages that a day is read in, by their number.
+fn room_of(size: usize) -> u64 {
+    match size {
+        0 => 1,
+        1 => 2,
+        2 => 3,
+        3 => 7,
+        _ => 100,
+    }
+}
+
+// Whether every page of several sizes is the expected one.
 fn all_pages_agree(
     counts: Counts,
     mins: &[u16],
@@ -168,69 +142,25 @@ fn all_pages_agree(
     bytes: &[u8],
     buffer: &mut [u8],
 ) -> bool {
-    if !pages_agree(
-        counts,
-        mins,
-        maxs,
-        optional,
-        rows,
-        expected,
-        1,
-        bytes,
-        buffer,
-    ) {
-        return false;
+    let mut size = 0;
+    while size < 5 {
+        let room = room_of(size);
+        if !pages_agree(
+            counts,
+            mins,
+            maxs,
+            optional,
+            rows,
+            expected,
+            room,
+            bytes,
+            buffer,
+        ) {
+            return false;
+        }
+        size += 1;
     }
-    if !pages_agree(
-        counts,
-        mins,
-        maxs,
-        optional,
-        rows,
-        expected,
-        2,
-        bytes,
-        buffer,
-    ) {
-        return false;
-    }
-    if !pages_agree(
-        counts,
-        mins,
-        maxs,
-        optional,
-        rows,
-        expected,
-        3,
-        bytes,
-        buffer,
-    ) {
-        return false;
-    }
-    if !pages_agree(
-        counts,
-        mins,
-        maxs,
-        optional,
-        rows,
-        expected,
-        7,
-        bytes,
-        buffer,
-    ) {
-        return false;
-    }
-    pages_agree(
-        counts,
-        mins,
-        maxs,
-        optional,
-        rows,
-        expected,
-        100,
-        bytes,
-        buffer,
-    )
+    true
 }
 
 // 01's number of the listing's refusal; 0 where it answers otherwise.
@@ -273,7 +203,7 @@ fn refused_alike(
     is_filled(buffer, 0, BLANK)
 }
 
-// 25 slots are one too many, and room for no plan is less than the buffer has.
+// Whether both calls refuse 25 slots, one too many, and room for no plan where the buffer has some.
 fn refusals_agree(
     counts: Counts,
     mins: &[u16],
@@ -294,7 +224,8 @@ fn refusals_agree(
     refused_alike(counts, mins, maxs, optional, rows, 0, 2, buffer)
 }
 
-// Every page of several sizes, budgets one below, at and one above the nodes, and what is refused.
+// Whether a day is answered as expected: every page of several sizes, budgets one below, at and one above the
+// nodes, and what is refused.
 fn day_agrees(
     counts: Counts,
     mins: &[u16],
@@ -317,15 +248,20 @@ fn day_agrees(
     turns_agree(counts, mins, maxs, optional, rows, expected, buffer)
 }
 
-// One day: its numbers from the record's front on, and behind them what is expected.
+// Whether one record is answered as expected: a day's numbers from its front on, and behind them what is
+// expected.
 fn agrees(bytes: &[u8], buffer: &mut [u8]) -> bool {
     let choices = byte(bytes, 0) as usize;
     let given = word(bytes, 3) as usize;
     let at = 5 + 8 * given;
-    let rows = read_rows(bytes, 5);
-    let mins = read_words(bytes, at);
-    let maxs = read_words(bytes, at + 2 * choices);
-    let optional = read_bytes(bytes, at + 4 * choices);
+    let mut rows = [0u64; 16];
+    let mut mins = [0u16; 64];
+    let mut maxs = [0u16; 64];
+    let mut optional = [0u8; 64];
+    read_numbers(bytes, 5, &mut rows);
+    read_words(bytes, at, &mut mins);
+    read_words(bytes, at + 2 * choices, &mut maxs);
+    read_bytes(bytes, at + 4 * choices, &mut optional);
     let counts = Counts {
         choices,
         slots: byte(bytes, 1) as usize,
@@ -350,25 +286,18 @@ fn agrees(bytes: &[u8], buffer: &mut [u8]) -> bool {
     )
 }
 
-// Every record of the file.
-fn replay(file: i32, bytes: &mut [u8], buffer: &mut [u8]) -> Tally {
-    let mut tally = Tally::new();
-    let mut left = 0x1_0000_0000u64;
-    while 0 < left {
-        let next = cases::read_next(file, bytes);
-        let Next::Record(_) = next else {
-            return ended(next, tally);
-        };
-        tally = tally.with(agrees(bytes, buffer));
-        left -= 1;
+// Judges every record of the file of cases.
+fn replay(record: &mut [u8], buffer: &mut [u8]) -> Tally {
+    let mut run = Replay::of(b"cases", record);
+    while 0 < run.left {
+        run = run.next(agrees(record, buffer), record);
     }
-    tally
+    run.tally
 }
 
 fn main() {
-    let file = cases::open();
-    let mut bytes = [0u8; 12800];
+    let mut record = [0u8; 12800];
     let mut buffer = [0u8; 12800];
-    let tally = replay(file, &mut bytes, &mut buffer);
+    let tally = replay(&mut record, &mut buffer);
     tally.tell(b"listing");
 }

@@ -1,25 +1,24 @@
 // Replays own maps and lookups told from 01 alone, of any counts and lengths, with the pools that they leave.
-use case_parts::after;
-use case_parts::rows;
-use case_parts::words;
-use case_parts::words_agree;
-use case_parts::words_are;
-use cases::Next;
-use cases::Tally;
-use cases::byte;
-use cases::ended;
-use cases::first_rows;
-use cases::first_words;
-use cases::number;
-use cases::plus;
-use cases::word;
-use constraint::check::Counts;
-use constraint::number::Choice;
-use constraint::refusal::Refusal;
-use constraint_map::lookup::MapCounts;
-use constraint_map::lookup::lookup;
-use constraint_map::own_map::Mapped;
-use constraint_map::own_map::own_map;
+use day_rows::check::Counts;
+use day_rows::number::Choice;
+use day_rows::refusal::Refusal;
+use search_map::lookup::MapCounts;
+use search_map::lookup::lookup;
+use search_map::own_map::Mapped;
+use search_map::own_map::own_map;
+use test_cases::Tally;
+use test_cases::byte;
+use test_cases::first_rows;
+use test_cases::first_words;
+use test_cases::number;
+use test_cases::parts::after;
+use test_cases::parts::rows;
+use test_cases::parts::words;
+use test_cases::parts::words_agree;
+use test_cases::parts::words_are;
+use test_cases::plus;
+use test_cases::replay::Replay;
+use test_cases::word;
 
 // What a pool's words hold before a call, so that what the call left alone shows.
 const BLANK_WORD: u16 = 30_583;
@@ -114,14 +113,14 @@ fn is_made(
     }
 }
 
-// The lengths of the three pools.
+// The lengths of an own map's three pools.
 struct PoolLengths {
     starts: usize,
     sizes: usize,
     numbers: usize,
 }
 
-// The own map into the first parts of pools, of the lengths that stand in the record.
+// Makes the own map in the first parts of pools, and tells whether answer and pools are the record's.
 fn own_agrees_in(
     bytes: &[u8],
     counts: Counts,
@@ -159,7 +158,7 @@ fn own_agrees_in(
     )
 }
 
-// A record of an own map.
+// Whether a record of an own map is answered as told.
 fn own_agrees(bytes: &[u8]) -> bool {
     let counts = Counts {
         choices: number(bytes, 1) as usize,
@@ -226,7 +225,7 @@ struct SlicePlaces {
     answer: usize,
 }
 
-// The lengths that stand in the record.
+// The lengths of a lookup's slices that stand in the record.
 fn slice_lengths(bytes: &[u8]) -> SliceLengths {
     SliceLengths {
         starts: word(bytes, 27) as usize,
@@ -237,7 +236,7 @@ fn slice_lengths(bytes: &[u8]) -> SliceLengths {
     }
 }
 
-// One slice behind the other.
+// The places of a lookup's slices, one behind the other.
 fn slice_places(lengths: SliceLengths) -> SlicePlaces {
     let sizes = after(STARTS_AT, lengths.starts, 2);
     let numbers = after(sizes, lengths.sizes, 2);
@@ -250,7 +249,7 @@ fn slice_places(lengths: SliceLengths) -> SlicePlaces {
     }
 }
 
-// A record of a lookup whose map is read.
+// Whether a record of a lookup whose map is read is answered as told.
 fn lookup_agrees_in<'a>(
     bytes: &[u8],
     answer: usize,
@@ -270,7 +269,7 @@ fn lookup_agrees_in<'a>(
     is_looked_up(bytes, answer, why, part)
 }
 
-// A record of a lookup.
+// Whether a record of a lookup is answered as told.
 fn lookup_agrees(bytes: &[u8]) -> bool {
     let lengths = slice_lengths(bytes);
     let places = slice_places(lengths);
@@ -292,7 +291,7 @@ fn lookup_agrees(bytes: &[u8]) -> bool {
     )
 }
 
-// One record: 0 and an own map, or 1 and a lookup.
+// Whether one record is answered as told: 0 and an own map, or 1 and a lookup.
 fn agrees(bytes: &[u8]) -> bool {
     match byte(bytes, 0) {
         0 => own_agrees(bytes),
@@ -300,24 +299,17 @@ fn agrees(bytes: &[u8]) -> bool {
     }
 }
 
-// Every record of the file.
-fn replay(file: i32, buffer: &mut [u8]) -> Tally {
-    let mut tally = Tally::new();
-    let mut left = 0x1_0000_0000u64;
-    while 0 < left {
-        let next = cases::read_next(file, buffer);
-        let Next::Record(_) = next else {
-            return ended(next, tally);
-        };
-        tally = tally.with(agrees(buffer));
-        left -= 1;
+// Judges every record of the file of cases.
+fn replay(record: &mut [u8]) -> Tally {
+    let mut run = Replay::of(b"cases", record);
+    while 0 < run.left {
+        run = run.next(agrees(record), record);
     }
-    tally
+    run.tally
 }
 
 fn main() {
-    let mut buffer = [0u8; 32768];
-    let file = cases::open();
-    let tally = replay(file, &mut buffer);
+    let mut record = [0u8; 32768];
+    let tally = replay(&mut record);
     tally.tell(b"maps");
 }

@@ -1,15 +1,14 @@
 // Replays whole texts of the program `plan`, whose answers were told from document 01 alone.
-use cases::BLANK;
-use cases::Next;
-use cases::Tally;
-use cases::ended;
-use cases::fill;
-use cases::word;
-use plan_lines::lines;
-use plan_text::text::plan_text;
-use planner::made::Made;
-use text_cases::record_pool;
-use text_cases::text_agrees;
+use test_cases::BLANK;
+use test_cases::Tally;
+use test_cases::fill;
+use test_cases::replay::Replay;
+use test_cases::texts::record_pool;
+use test_cases::texts::text_agrees;
+use test_cases::word;
+use text_day::made::Made;
+use text_lines::plan_lines::LONGEST_TEXT;
+use text_plan::text::plan_text;
 ghost use mathlib.Core.Path.{_≡_};
 ghost use lib.ListN.{length};
 
@@ -17,13 +16,13 @@ ghost use lib.ListN.{length};
 const FILE_AT: usize = 4;
 
 // Room for the longest text of `plan`.
-fn plan_pool() -> [u8; lines::LONGEST_TEXT]
+fn plan_pool() -> [u8; LONGEST_TEXT]
     ensures { λ r. ⌜ 1311 ≡ length r ⌝ }
 {
-    [BLANK; lines::LONGEST_TEXT]
+    [BLANK; LONGEST_TEXT]
 }
 
-// One case: a file with its length before it, then the answer.
+// Whether one case is answered as told: a file with its length before it, then the answer.
 fn agrees(bytes: &[u8], text: &mut [u8]) -> bool {
     let size = (word(bytes, 0) as usize) * 65_536 + word(bytes, 2) as usize;
     let end = size + FILE_AT;
@@ -38,25 +37,18 @@ fn agrees(bytes: &[u8], text: &mut [u8]) -> bool {
     }
 }
 
-// Every record of the file.
-fn replay(file: i32, bytes: &mut [u8], text: &mut [u8]) -> Tally {
-    let mut tally = Tally::new();
-    let mut left = 0x1_0000_0000u64;
-    while 0 < left {
-        let next = cases::read_next(file, bytes);
-        let Next::Record(_) = next else {
-            return ended(next, tally);
-        };
-        tally = tally.with(agrees(bytes, text));
-        left -= 1;
+// Judges every record of the file of cases.
+fn replay(record: &mut [u8], text: &mut [u8]) -> Tally {
+    let mut run = Replay::of(b"cases", record);
+    while 0 < run.left {
+        run = run.next(agrees(record, text), record);
     }
-    tally
+    run.tally
 }
 
 fn main() {
-    let mut bytes = record_pool();
-    let file = cases::open();
+    let mut record = record_pool();
     let mut text = plan_pool();
-    let tally = replay(file, &mut bytes, &mut text);
+    let tally = replay(&mut record, &mut text);
     tally.tell(b"plan");
 }

@@ -1,19 +1,18 @@
 // Replays whole texts of the program `plans`, whose answers were told from document 01 alone.
-use cases::BLANK;
-use cases::Next;
-use cases::Tally;
-use cases::ended;
-use cases::fill;
-use cases::is_filled;
-use cases::number;
-use cases::word;
-use constraint::refusal::Refusal;
-use planner::made::Made;
-use plans_text::text::LONGEST_TEXT;
-use plans_text::text::plans_text;
-use text_cases::length_at;
-use text_cases::record_pool;
-use text_cases::text_agrees;
+use day_rows::refusal::Refusal;
+use test_cases::BLANK;
+use test_cases::Tally;
+use test_cases::fill;
+use test_cases::is_filled;
+use test_cases::number;
+use test_cases::replay::Replay;
+use test_cases::texts::length_at;
+use test_cases::texts::record_pool;
+use test_cases::texts::text_agrees;
+use test_cases::word;
+use text_day::made::Made;
+use text_plans::text::LONGEST_TEXT;
+use text_plans::text::plans_text;
 ghost use mathlib.Core.Path.{_≡_};
 ghost use lib.ListN.{length};
 
@@ -30,7 +29,7 @@ fn text_pool() -> [u8; LONGEST_TEXT]
     [BLANK; LONGEST_TEXT]
 }
 
-// Whether no text was expected: the room's refusal, and the pool as it was.
+// Whether a refusal is the one told, no text expected: the room's refusal, and the pool as it was.
 fn refusal_agrees(bytes: &[u8], at: usize, why: Refusal, text: &[u8]) -> bool {
     if length_at(bytes, at) != NO_TEXT {
         return false;
@@ -49,7 +48,8 @@ fn told_agrees(bytes: &[u8], at: usize, told: Made, text: &[u8]) -> bool {
     }
 }
 
-// One case of `plans`: the first number, the room and the budget, a file with its length before it, then the answer.
+// Whether one case of `plans` is answered as told: the first number, the room and the budget, a file with its
+// length before it, then the answer.
 fn agrees(bytes: &[u8], text: &mut [u8]) -> bool {
     let size = (word(bytes, 24) as usize) * 65_536 + word(bytes, 26) as usize;
     let end = size + FILE_AT;
@@ -67,25 +67,18 @@ fn agrees(bytes: &[u8], text: &mut [u8]) -> bool {
     told_agrees(bytes, end, told, text)
 }
 
-// Every record of the file.
-fn replay(file: i32, bytes: &mut [u8], text: &mut [u8]) -> Tally {
-    let mut tally = Tally::new();
-    let mut left = 0x1_0000_0000u64;
-    while 0 < left {
-        let next = cases::read_next(file, bytes);
-        let Next::Record(_) = next else {
-            return ended(next, tally);
-        };
-        tally = tally.with(agrees(bytes, text));
-        left -= 1;
+// Judges every record of the file of cases.
+fn replay(record: &mut [u8], text: &mut [u8]) -> Tally {
+    let mut run = Replay::of(b"cases", record);
+    while 0 < run.left {
+        run = run.next(agrees(record, text), record);
     }
-    tally
+    run.tally
 }
 
 fn main() {
-    let mut bytes = record_pool();
-    let file = cases::open();
+    let mut record = record_pool();
     let mut text = text_pool();
-    let tally = replay(file, &mut bytes, &mut text);
+    let tally = replay(&mut record, &mut text);
     tally.tell(b"plans");
 }

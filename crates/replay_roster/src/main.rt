@@ -1,17 +1,19 @@
 // Replays roster checks: those that the Rust answered, and those told from 01 alone, most of them refused.
-use cases::Next;
-use cases::Tally;
-use cases::byte;
-use cases::ended;
-use cases::first_bytes;
-use cases::first_rows;
-use cases::first_words;
-use cases::plus;
-use cases::word;
-use constraint::refusal::Refusal;
-use scoring::roster_check::RosterChecked;
-use scoring::roster_check::RosterCounts;
-use scoring::roster_check::check_roster;
+use day_rows::refusal::Refusal;
+use roster_check::roster_check::RosterChecked;
+use roster_check::roster_check::RosterCounts;
+use roster_check::roster_check::check_roster;
+use test_cases::Tally;
+use test_cases::byte;
+use test_cases::first_bytes;
+use test_cases::first_rows;
+use test_cases::first_words;
+use test_cases::parts::after;
+use test_cases::parts::few_bytes;
+use test_cases::parts::words;
+use test_cases::plus;
+use test_cases::replay::Replay;
+use test_cases::word;
 
 // The lengths of the slices that a case lends.
 struct Lengths {
@@ -32,13 +34,14 @@ struct Places {
     rest: usize,
 }
 
-// What a case expects: 0 failed, 1 passed, 100 more than a refusal's number; and the highest preference, or the row carried.
+// What a case expects: 0 failed, 1 passed, 100 more than a refusal's number; and the highest preference, or
+// the row carried.
 struct Expected {
     outcome: u8,
     value: u16,
 }
 
-// An outcome as the told records have it: the Rust's file says 10 for a refused cell.
+// The outcome that a record writes, as the told records have it: the Rust's file says 10 for a refused cell.
 fn outcome_of(written: u8) -> u8 {
     if written == 10 {
         return 110;
@@ -81,39 +84,8 @@ fn is_answer(answer: RosterChecked, expected: Expected) -> bool {
     }
 }
 
-// The first n words of a pool read from a place on.
-fn words(bytes: &[u8], at: usize, n: usize, pool: &mut [u16]) {
-    if n <= pool.len() {
-        cases::read_words(bytes, at, &mut pool[..n]);
-    }
-}
-
-// The first n rows of a pool read from a place on.
-fn numbers(bytes: &[u8], at: usize, n: usize, pool: &mut [u64]) {
-    if n <= pool.len() {
-        cases::read_numbers(bytes, at, &mut pool[..n]);
-    }
-}
-
-// The first n bytes of a pool read from a place on.
-fn few_bytes(bytes: &[u8], at: usize, n: usize, pool: &mut [u8]) {
-    if n <= pool.len() {
-        cases::read_bytes(bytes, at, &mut pool[..n]);
-    }
-}
-
-// The place after so many entries of so many bytes.
-fn after(at: usize, n: usize, wide: usize) -> usize {
-    if 65_536 < n {
-        return at;
-    }
-    if 255 < wide {
-        return at;
-    }
-    plus(at, n * wide)
-}
-
-// The check of a case whose rows are read; the other slices stand from a place on, and then what is expected.
+// Whether a case whose rows are read is answered as expected; the other slices stand from a place on, and
+// then what is expected.
 fn agrees_at(
     bytes: &[u8],
     at: usize,
@@ -158,12 +130,12 @@ fn agrees_at(
     is_answer(answer, expected)
 }
 
-// One case, with both lists of rows.
+// Whether one case is answered as expected: both lists of rows are read, and then the others.
 fn agrees(bytes: &[u8], places: Places, counts: RosterCounts, lengths: Lengths) -> bool {
     let mut rows = [0u64; 1025];
     let mut assignment_rows = [0u64; 1025];
-    numbers(bytes, places.rows, lengths.rows, &mut rows);
-    numbers(
+    test_cases::parts::rows(bytes, places.rows, lengths.rows, &mut rows);
+    test_cases::parts::rows(
         bytes,
         places.assignment_rows,
         lengths.assignment_rows,
@@ -179,7 +151,8 @@ fn agrees(bytes: &[u8], places: Places, counts: RosterCounts, lengths: Lengths) 
     )
 }
 
-// A record of the Rust's: C, S, H, L, the two lists of rows, each after its count, and the rest at the lengths that the counts give.
+// Whether a record of the Rust's is answered as it says: C, S, H, L, the two lists of rows, each after its
+// count, and the rest at the lengths that the counts give.
 fn agrees_asked(bytes: &[u8]) -> bool {
     let choices = byte(bytes, 0) as usize;
     let slots = byte(bytes, 1) as usize;
@@ -214,7 +187,8 @@ fn agrees_asked(bytes: &[u8]) -> bool {
     agrees(bytes, places, counts, lengths)
 }
 
-// A record told from 01: six counts, eight lengths, the two lists of rows and the rest, all of any length.
+// Whether a record told from 01 is answered as it says: six counts, eight lengths, the two lists of rows and
+// the rest, all of any length.
 fn agrees_told(bytes: &[u8]) -> bool {
     let counts = RosterCounts {
         choices: word(bytes, 0) as usize,
@@ -243,42 +217,28 @@ fn agrees_told(bytes: &[u8]) -> bool {
     agrees(bytes, places, counts, lengths)
 }
 
-// Every record of the Rust's file.
-fn replay(file: i32, buffer: &mut [u8]) -> Tally {
-    let mut tally = Tally::new();
-    let mut left = 0x1_0000_0000u64;
-    while 0 < left {
-        let next = cases::read_next(file, buffer);
-        let Next::Record(_) = next else {
-            return ended(next, tally);
-        };
-        tally = tally.with(agrees_asked(buffer));
-        left -= 1;
+// Judges every record of the file of cases.
+fn replay(record: &mut [u8]) -> Tally {
+    let mut run = Replay::of(b"cases", record);
+    while 0 < run.left {
+        run = run.next(agrees_asked(record), record);
     }
-    tally
+    run.tally
 }
 
-// Every record of the file told from 01.
-fn replay_told(file: i32, buffer: &mut [u8]) -> Tally {
-    let mut tally = Tally::new();
-    let mut left = 0x1_0000_0000u64;
-    while 0 < left {
-        let next = cases::read_next(file, buffer);
-        let Next::Record(_) = next else {
-            return ended(next, tally);
-        };
-        tally = tally.with(agrees_told(buffer));
-        left -= 1;
+// Judges every record of the file told from 01.
+fn replay_told(record: &mut [u8]) -> Tally {
+    let mut run = Replay::of(b"refusals", record);
+    while 0 < run.left {
+        run = run.next(agrees_told(record), record);
     }
-    tally
+    run.tally
 }
 
 fn main() {
-    let mut buffer = [0u8; 65536];
-    let file = cases::open();
-    let tally = replay(file, &mut buffer);
+    let mut record = [0u8; 65536];
+    let tally = replay(&mut record);
     tally.tell(b"roster");
-    let refusals = os::open_read(b"refusals");
-    let second = replay_told(refusals, &mut buffer);
-    second.tell(b"refusals");
+    let told = replay_told(&mut record);
+    told.tell(b"refusals");
 }

@@ -1,22 +1,22 @@
-// Replays union-find runs whose answers the Rust gave: joins, then the root of each element, then the groups, then the record.
-use cases::Next;
-use cases::Tally;
-use cases::byte;
-use cases::ended;
-use cases::plus;
-use cases::same;
-use cases::word;
-use union_find::Found;
-use union_find::Grouped;
-use union_find::UnionFind;
+// Replays union-find runs whose answers the Rust gave: joins, then the root of each element, then the groups,
+// then the record.
+use reduce_union_find::Found;
+use reduce_union_find::Grouped;
+use reduce_union_find::UnionFind;
+use test_cases::Tally;
+use test_cases::byte;
+use test_cases::plus;
+use test_cases::replay::Replay;
+use test_cases::same;
+use test_cases::word;
 
-// A record made by a run's joins, and whether each join answered as expected so far.
+// A union-find made by a run's joins, and whether each join answered as expected so far.
 struct Run {
     state: UnionFind,
     agrees: bool,
 }
 
-// Whether an answer is this root.
+// Whether an answer of `find` or `join` is this root.
 fn is_root(found: Found, root: u8) -> bool {
     match found {
         Found::Root(r) => r == root as usize,
@@ -24,7 +24,7 @@ fn is_root(found: Found, root: u8) -> bool {
     }
 }
 
-// One join, held to the root that it returned.
+// Makes one join of a run, held to the root that the Rust returned.
 fn join_one(run: Run, choices: usize, left: u8, right: u8, root: u8) -> Run {
     let state = run.state;
     let answer = state.join(choices, left as usize, right as usize);
@@ -40,7 +40,7 @@ fn join_one(run: Run, choices: usize, left: u8, right: u8, root: u8) -> Run {
     }
 }
 
-// A record's pairs stand from place 3 on, and after them the roots.
+// Makes the joins of a run: a record's pairs stand from place 3 on, and after them the roots.
 fn join_all(bytes: &[u8], choices: usize, joins: usize, roots: usize) -> Run {
     let mut run = Run {
         state: UnionFind::new(),
@@ -58,7 +58,7 @@ fn join_all(bytes: &[u8], choices: usize, joins: usize, roots: usize) -> Run {
     run
 }
 
-// The root of each element, from a place on.
+// Whether the root of each element is the one that stands from a place on.
 fn roots_agree(bytes: &[u8], at: usize, choices: usize, state: UnionFind) -> bool {
     let mut i = 0;
     while i < choices {
@@ -70,7 +70,7 @@ fn roots_agree(bytes: &[u8], at: usize, choices: usize, state: UnionFind) -> boo
     true
 }
 
-// One group, its size and its members from a place on: it stands in the pool from start to end.
+// Whether one group, in the pool from start to end, is the one whose size and members stand from a place on.
 fn group_agrees(bytes: &[u8], at: usize, members: &[u8], start: usize, end: usize) -> bool {
     let size = byte(bytes, at) as usize;
     if end != plus(start, size) {
@@ -79,7 +79,7 @@ fn group_agrees(bytes: &[u8], at: usize, members: &[u8], start: usize, end: usiz
     same(members, start, bytes, plus(at, 1), size)
 }
 
-// The groups from a place on, one after another.
+// Whether the groups are those that stand from a place on, one after another.
 fn members_agree(bytes: &[u8], from: usize, count: usize, members: &[u8], ends: &[u8]) -> bool {
     let mut at = from;
     let mut start = 0;
@@ -96,7 +96,7 @@ fn members_agree(bytes: &[u8], from: usize, count: usize, members: &[u8], ends: 
     true
 }
 
-// Past their results both pools are zero.
+// Whether both pools are zero past their results.
 fn rest_is_zero(choices: usize, count: usize, members: &[u8], ends: &[u8]) -> bool {
     let zeros = [0u8; 64];
     if !same(members, choices, &zeros, 0, 64) {
@@ -105,6 +105,7 @@ fn rest_is_zero(choices: usize, count: usize, members: &[u8], ends: &[u8]) -> bo
     same(ends, count, &zeros, 0, 64)
 }
 
+// Whether the call `groups` answers what stands from a place on.
 fn groups_agree(bytes: &[u8], at: usize, choices: usize, state: UnionFind) -> bool {
     let mut members = [9u8; 64];
     let mut ends = [9u8; 64];
@@ -123,7 +124,7 @@ fn groups_agree(bytes: &[u8], at: usize, choices: usize, state: UnionFind) -> bo
     }
 }
 
-// The parents and the heights of the elements, from a place on.
+// Whether the parents and the heights of the elements are those that stand from a place on.
 fn entries_agree(bytes: &[u8], at: usize, choices: usize, state: UnionFind) -> bool {
     let parents = state.parents;
     let heights = state.heights;
@@ -133,7 +134,7 @@ fn entries_agree(bytes: &[u8], at: usize, choices: usize, state: UnionFind) -> b
     same(&heights, 0, bytes, plus(at, choices), choices)
 }
 
-// One run: joins, roots, groups and entries.
+// Whether one run is the Rust's: joins, roots, groups and entries.
 fn agrees(bytes: &[u8]) -> bool {
     let choices = byte(bytes, 0) as usize;
     let joins = word(bytes, 1) as usize;
@@ -154,24 +155,17 @@ fn agrees(bytes: &[u8]) -> bool {
     entries_agree(bytes, entries, choices, state)
 }
 
-// Every record of the file.
-fn replay(file: i32, buffer: &mut [u8]) -> Tally {
-    let mut tally = Tally::new();
-    let mut left = 0x1_0000_0000u64;
-    while 0 < left {
-        let next = cases::read_next(file, buffer);
-        let Next::Record(_) = next else {
-            return ended(next, tally);
-        };
-        tally = tally.with(agrees(buffer));
-        left -= 1;
+// Judges every record of the file of cases.
+fn replay(record: &mut [u8]) -> Tally {
+    let mut run = Replay::of(b"cases", record);
+    while 0 < run.left {
+        run = run.next(agrees(record), record);
     }
-    tally
+    run.tally
 }
 
 fn main() {
-    let file = cases::open();
-    let mut buffer = [0u8; 4096];
-    let tally = replay(file, &mut buffer);
+    let mut record = [0u8; 4096];
+    let tally = replay(&mut record);
     tally.tell(b"union_find");
 }

@@ -10,14 +10,14 @@ use borrow.Author.Tests.{eq-eqb, ne-eqb}
 use lib.Dec.{eqb}
 use lib.ListN.{length, getD, take, drop, length-take, length-drop, drop-of-length-le}
 use lib.Seq.{take-nil, drop-length, drop-cons, length-take-le}
-use Rattle.lists.specs.Below.{one}
-use Rattle.lists.specs.Group.{timesIn}
-use Rattle.lists.specs.Pool.{window}
+use Rattle.base_lists.specs.Below.{one}
+use Rattle.base_lists.specs.Group.{timesIn}
+use Rattle.base_lists.specs.Pool.{window}
 use Rattle.roster_rows.specs.Cells.{cellsOf}
 use Rattle.roster_rows.specs.steps.Shapes.{Seated}
 
 module _ (slots : ℕ) (roster : List ℕ) (chooser : ℕ) where
-  -- never more than S
+  -- a chooser has never more than S cells
   pub cells-few : length (cellsOf slots roster chooser) ≤ slots
   unfolding cellsOf window
   cells-few = rw (length-take slots (drop (chooser * slots) roster)) (omega arith)
@@ -32,14 +32,14 @@ module _ (slots : ℕ) (roster : List ℕ) (chooser : ℕ) where
       ap (λ (n : ℕ). take n (drop (chooser * slots) roster)) e
 
   module _ (choosers : ℕ) (k : Seated slots choosers roster) where
-    -- a chooser past the last has none
+    -- a chooser past the last has no cells
     pub cells-past : choosers ≤ chooser → [] ≡ cellsOf slots roster chooser
     unfolding cellsOf window
     cells-past h =
         let e : length roster ≤ chooser * slots = omega (arith, k .cells, mul-le-mul-right slots h) in
         rw (drop-of-length-le roster {i = chooser * slots} e, take-nil slots)
 
-    -- the cells of another end within the roster
+    -- the cells of a chooser that there is end within the roster
     pub cells-end : chooser < choosers → chooser * slots + slots ≤ length roster
     cells-end h =
         let m : suc chooser * slots ≤ choosers * slots = mul-le-mul-right slots h in
@@ -68,7 +68,7 @@ module _ (x : ℕ) (l : List ℕ) where
   unfolding timesIn
   times-end i h = rw (drop-of-length-le l {i = i} h)
 
--- no more often than there are entries
+-- a number stands in a list no more often than there are entries
 pub times-le : (x : ℕ) (l : List ℕ) → timesIn x l ≤ length l
 unfolding timesIn one
 times-le x [] = omega arith
@@ -78,7 +78,7 @@ times-le x (y ∷ l) = go (eqb x y) (times-le x l)
     go true h = omega arith
     go false h = omega arith
 
--- the code's count of what it has passed, with what is left, is the whole
+-- the code's count of the entries passed, with what stands in the rest, is the count of the whole list
 pub times-step : (x : ℕ) (l : List ℕ) (i times r : ℕ) → i < length l → times + timesIn x (drop i l) ≡ timesIn x l → r ≡ one (eqb x (getD l i 0))
     → times + r + timesIn x (drop (i + 1) l) ≡ timesIn x l
 times-step x l i times r h e q = omega (arith, e, q, times-next x l i h)

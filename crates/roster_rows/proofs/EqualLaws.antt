@@ -9,11 +9,11 @@ use native.Mathlib.Omega.{arith}
 use borrow.Author.Tests.{eq-eqb, eqb-true}
 use lib.Dec.{eqb}
 use lib.ListN.{length, replicate}
-use Rattle.lists.specs.Below.{one, allBelow}
-use Rattle.lists.specs.Flat.{joinBelow}
-use Rattle.lists.specs.Group.{timesIn}
-use Rattle.lists.proofs.Below.{and-both, and-left, and-right, all-each, each-all}
-use Rattle.lists.proofs.Flat.{join-ext}
+use Rattle.base_lists.specs.Below.{one, allBelow}
+use Rattle.base_lists.specs.Flat.{joinBelow}
+use Rattle.base_lists.specs.Group.{timesIn}
+use Rattle.base_lists.proofs.Below.{and-both, and-left, and-right, all-each, each-all}
+use Rattle.base_lists.proofs.Flat.{join-ext}
 use Rattle.roster_rows.specs.Rows.{sortedBy, equalLists}
 use Rattle.roster_rows.proofs.TallyLaws.{one-true, one-false}
 
@@ -64,7 +64,7 @@ module _ (times : ℕ → ℕ) where
       let d : x ≡ n → ⊥ = λ e. omega (arith, e, h) in
       times-append x (sortedBy n times) (replicate (times n) n) ∙ omega (arith, sorted-past n x (omega arith), times-other x n (times n) d)
 
-  -- every other stands as often as the function says
+  -- a number below the bound stands in the list as often as the function says
   pub sorted-times : (n x : ℕ) → x < n → timesIn x (sortedBy n times) ≡ times x
   unfolding sortedBy joinBelow
   sorted-times zero x h = absurd (not-suc-le-zero h)
@@ -78,7 +78,7 @@ pub same-lists : (n : ℕ) (f g : ℕ → ℕ) → ((k : ℕ) → k < n → f k 
 unfolding sortedBy
 same-lists n f g h = join-ext n (λ k. replicate (f k) k) (λ k. replicate (g k) k) λ k hk. ap (λ (m : ℕ). replicate m k) (h k hk)
 
--- two such lists are equal exactly if each number stands equally often in both
+-- two sorted lists are equal exactly if each number stands equally often in both
 module _ (n : ℕ) (f g : ℕ → ℕ) where
   pub sorted-equal : equalLists (sortedBy n f) (sortedBy n g) ≡ allBelow n λ k. eqb (f k) (g k)
   sorted-equal = same-test (equalLists (sortedBy n f) (sortedBy n g)) (allBelow n λ k. eqb (f k) (g k)) counts lists

@@ -1,4 +1,4 @@
--- Each kind of row, and each way through the call.
+-- The rows of kinds 10 to 13: each kind's sentence, and each way through keeps_assignment_rows.
 use mathlib.Core.Path.{_≡_, refl, sym, _∙_, ap}
 use mathlib.Core.Bool.{Bool, true, false, _&&_, _||_, not, cond}
 use mathlib.Core.List.{List}
@@ -6,17 +6,17 @@ use Prim.Native.Nat.{ℕ, _+_, _*_, _≤_, _<_}
 use borrow.Author.Tests.{eq-eqb, ne-eqb, le-leb, lt-leb}
 use lib.Dec.{eqb, leb}
 use lib.ListN.{length, getD}
-use Rattle.lists.specs.Below.{allBelow}
-use Rattle.lists.specs.Group.{timesIn}
-use Rattle.lists.proofs.Below.{all-more, one-fails}
-use Rattle.constraint.specs.declared.row.Row.{Row}
-use Rattle.scheduling.specs.Plan.{omitted}
+use Rattle.base_lists.specs.Below.{allBelow}
+use Rattle.base_lists.specs.Group.{timesIn}
+use Rattle.base_lists.proofs.Below.{all-more, one-fails}
+use Rattle.day_rows.specs.declared.row.Row.{Row}
+use Rattle.plan_check.specs.Plan.{omitted}
 use Rattle.roster_rows.specs.Cells.{cellsOf}
 use Rattle.roster_rows.specs.Rows.{sortedBy, equalLists, choosersIn, choicesOf, isThere, keepsAssignmentRow, keepsAssignmentRows, rosterKeeps}
 use Rattle.roster_rows.specs.steps.Shapes.{Tally}
 use Rattle.roster_rows.proofs.EqualLaws.{sorted-equal}
 
--- lists of choosers and of choices, told by counts
+-- lists of choosers, and of choices, are equal exactly if their counts are
 module _ (slots : ℕ) (roster : List ℕ) where
   pub choosers-equal : (choosers left right : ℕ)
       → allBelow choosers (λ chooser. eqb (timesIn left (cellsOf slots roster chooser)) (timesIn right (cellsOf slots roster chooser)))
@@ -68,7 +68,7 @@ module _ (choices slots : ℕ) (roster : List ℕ) (left right : ℕ) {cells oth
       all-more (λ k. eqb (timesIn k (cellsOf slots roster left)) (timesIn k (cellsOf slots roster right))) choice h
       (eq-eqb _ _ (sym our-count ∙ z ∙ their-count))
 
--- a test that may be spared
+-- a test that may be spared, because one before it holds
 pub or-first : {a : Bool} (b : Bool) → a ≡ true → true ≡ (a || b)
 or-first b t = rw t
 
@@ -85,7 +85,7 @@ module _ {a : Bool} (b c : Bool) where
   pub or-last : a ≡ false → b ≡ false → c ≡ (a || b || c)
   or-last t u = rw (t, u)
 
--- the kind decides the sentence
+-- a row's kind decides its sentence
 module _ (choices slots choosers : ℕ) (plan roster : List ℕ) (row : Row) where
   pub keeps-10 : row .kind ≡ 10
       → keepsAssignmentRow choices slots choosers plan roster row
@@ -114,7 +114,7 @@ module _ (choices slots choosers : ℕ) (plan roster : List ℕ) (row : Row) whe
   unfolding keepsAssignmentRow
   keeps-other a b c d = simp (ne-eqb _ _ a, ne-eqb _ _ b, ne-eqb _ _ c, ne-eqb _ _ d)
 
--- the call, one test after the other
+-- keeps_assignment_rows, one test of the roster's shape after the other
 module _ (choices slots choosers : ℕ) (plan roster rows : List ℕ) where
   pub many-choices : 64 < choices → false ≡ rosterKeeps choices slots choosers plan roster rows
   unfolding rosterKeeps

@@ -1,4 +1,5 @@
--- The rows of kinds 10 to 13 in plain mathematics, each kind apart; and that no two outcomes fit.
+-- The rows of kinds 10 to 13 in plain mathematics, each kind apart; and that no two outcomes fit what
+-- keeps_assignment_rows promises.
 use mathlib.Core.Path.{_≡_, refl, sym, _∙_, ap}
 use mathlib.Core.Bool.{Bool, true, false, _||_, not, false≢true}
 use mathlib.Core.List.{List, [], _∷_}
@@ -10,12 +11,12 @@ use native.Mathlib.Omega.{arith}
 use borrow.Author.Tests.{eq-eqb, ne-eqb, eqb-true, not-true}
 use lib.Dec.{eqb}
 use lib.ListN.{length, getD}
-use Rattle.lists.specs.Group.{timesIn}
-use Rattle.lists.specs.Keep.{anyOf}
-use Rattle.lists.proofs.Outcome.{no-two}
-use Rattle.constraint.specs.declared.row.Row.{Row}
-use Rattle.scheduling.specs.Plan.{slotOf, omitted}
-use Rattle.plan_rows.proofs.PlanLaws.{is-omitted, not-omitted}
+use Rattle.base_lists.specs.Group.{timesIn}
+use Rattle.base_lists.specs.Keep.{anyOf}
+use Rattle.base_lists.proofs.Outcome.{no-two}
+use Rattle.day_rows.specs.declared.row.Row.{Row}
+use Rattle.plan_check.specs.Plan.{slotOf, omitted}
+use Rattle.plan_check.proofs.PlanLaws.{is-omitted, not-omitted}
 use Rattle.roster_rows.specs.Cells.{cellsOf}
 use Rattle.roster_rows.specs.Rows.{sortedBy, equalLists, choosersIn, choicesOf, isThere, keepsAssignmentRow, rosterKeeps}
 use Rattle.roster_rows.proofs.EqualLaws.{equal-means, equal-by, same-lists, sorted-times}
@@ -55,7 +56,7 @@ module _ (slots : ℕ) (roster : List ℕ) (chooser choice : ℕ) where
   unfolding isThere There
   there-by t = any-by choice (cellsOf slots roster chooser) (t .0) (t .1) (t .2)
 
--- an alternative that is an omission
+-- a test that an omission spares: it must hold where the choice isn't omitted
 module _ (plan : List ℕ) (choice : ℕ) (b : Bool) where
   unless-out : (omitted plan choice || b) ≡ true → (slotOf plan choice ≡ 255 → ⊥) → b ≡ true
   unless-out h n = ap (λ (o : Bool). o || b) (sym (not-omitted plan choice n)) ∙ h
@@ -71,7 +72,7 @@ or-assoc : (a b c : Bool) → (a || b || c) ≡ (a || (b || c))
 or-assoc true b c = refl
 or-assoc false b c = refl
 
--- each kind in plain words
+-- what each kind of row asks of a roster, in plain words
 module _ (choices slots choosers : ℕ) (plan roster : List ℕ) (row : Row) where
   -- '10, if both are scheduled: equal lists of choosers, repeats counted'
   pub kind-10 : row .kind ≡ 10
@@ -114,7 +115,7 @@ module _ (choices slots choosers : ℕ) (plan roster : List ℕ) (row : Row) whe
       let e = keeps-13 choices slots choosers plan roster row k in
       (λ h. equal-means _ _ (sym e ∙ h), λ q. e ∙ equal-by _ _ q)
 
--- what the two lists are: each chooser, each choice stands in them as often as the cells name it
+-- the lists of choosers and of choices: each stands in its list as often as the cells say
 module _ (choices slots choosers : ℕ) (roster : List ℕ) where
   pub choosers-counted : (choice chooser : ℕ) → chooser < choosers → timesIn chooser (choosersIn slots choosers roster choice) ≡ timesIn choice (cellsOf slots roster chooser)
   unfolding choosersIn

@@ -9,12 +9,12 @@ use borrow.Author.Tests.{eq-eqb, ne-eqb}
 use lib.Dec.{eqb}
 use lib.ListN.{length, getD, set, drop, replicate, length-set}
 use lib.Seq.{getD-set-same, getD-set-other}
-use Rattle.lists.specs.Below.{one}
-use Rattle.lists.specs.Group.{timesIn}
+use Rattle.base_lists.specs.Below.{one}
+use Rattle.base_lists.specs.Group.{timesIn}
 use Rattle.roster_rows.specs.steps.Shapes.{Tally}
 use Rattle.roster_rows.proofs.CellLaws.{times-next, times-end, times-le}
 
--- after the first n entries: what is counted and what is left make the whole
+-- the pass over a list, after the first n entries: what is counted and what is left make the whole
 pub record Tallying (list : List ℕ) (n : ℕ) (times : List ℕ) : Type 0 where
   pub within : n ≤ length list
   pub entries : length times ≡ 256

@@ -1,3 +1,4 @@
 pub mod Cells
 pub mod Rows
+pub mod Seats
 pub mod steps

@@ -3,29 +3,33 @@ use super::cells::cells_of;
 use super::cells::is_there;
 use super::cells::tally;
 use super::cells::times_in;
-use constraint::kind::Kind;
-use constraint::row::Row;
-use plan_rows::plan::OMITTED;
-use plan_rows::plan::slot_of;
+use day_rows::kind::Kind;
+use day_rows::row::Row;
+use plan_check::plan::OMITTED;
+use plan_check::plan::slot_of;
 ghost use mathlib.Core.Path.{_≡_};
 ghost use mathlib.Core.Bool.{_||_};
 ghost use Prim.Native.Nat.{_≤_};
-ghost use Rattle.constraint.specs.Row.{rowOf};
-ghost use Rattle.scheduling.specs.Plan.{omitted};
+ghost use Rattle.day_rows.specs.Row.{rowOf};
+ghost use Rattle.plan_check.specs.Plan.{omitted};
 ghost use Rattle.roster_rows.specs.Rows.{equalLists, choosersIn, choicesOf, isThere, keepsAssignmentRow, keepsAssignmentRows, rosterKeeps};
 ghost use Rattle.roster_rows.specs.steps.Shapes.{Seated};
 
-// Whether a choice is omitted.
+// Whether a plan omits a choice.
 fn is_omitted(plan: &[u8], choice: u16) -> bool
     ensures { λ r. ⌜ r ≡ omitted (now (plan .entry)) choice ⌝ }
 {
     slot_of(plan, choice) == OMITTED
 }
 
-// 'equal lists of choosers, repeats counted': every chooser's cells name the two choices equally often.
+// Whether two choices have 'equal lists of choosers, repeats counted': every chooser's cells name the two
+// choices equally often.
 fn same_choosers(slots: usize, choosers: usize, roster: &[u8], left: u16, right: u16) -> bool
     requires { ⌜ Seated slots choosers (now roster) ⌝ }
-    ensures { λ r. ⌜ r ≡ equalLists (choosersIn slots choosers (now (roster .entry)) left) (choosersIn slots choosers (now (roster .entry)) right) ⌝ }
+    ensures { λ r.
+        let leftChoosers = choosersIn slots choosers (now (roster .entry)) left in
+        let rightChoosers = choosersIn slots choosers (now (roster .entry)) right in
+        ⌜ r ≡ equalLists leftChoosers rightChoosers ⌝ }
 {
     let mut chooser = 0;
     while chooser < choosers {
@@ -38,7 +42,7 @@ fn same_choosers(slots: usize, choosers: usize, roster: &[u8], left: u16, right:
     true
 }
 
-// Kind 10: two scheduled choices have equal lists of choosers.
+// Kind 10: whether two choices have equal lists of choosers, or one of them is omitted.
 fn keeps_same_choosers(
     slots: usize,
     choosers: usize,
@@ -48,7 +52,12 @@ fn keeps_same_choosers(
     right: u16,
 ) -> bool
     requires { ⌜ Seated slots choosers (now roster) ⌝ }
-    ensures { λ r. ⌜ r ≡ (omitted (now (plan .entry)) left || omitted (now (plan .entry)) right || equalLists (choosersIn slots choosers (now (roster .entry)) left) (choosersIn slots choosers (now (roster .entry)) right)) ⌝ }
+    ensures { λ r.
+        let leftOut = omitted (now (plan .entry)) left in
+        let rightOut = omitted (now (plan .entry)) right in
+        let leftChoosers = choosersIn slots choosers (now (roster .entry)) left in
+        let rightChoosers = choosersIn slots choosers (now (roster .entry)) right in
+        ⌜ r ≡ (leftOut || rightOut || equalLists leftChoosers rightChoosers) ⌝ }
 {
     if is_omitted(plan, left) {
         return true;
@@ -59,7 +68,7 @@ fn keeps_same_choosers(
     same_choosers(slots, choosers, roster, left, right)
 }
 
-// Whether a cell of the chooser names the choice.
+// Whether a cell of a chooser names a choice.
 fn seated(slots: usize, choosers: usize, roster: &[u8], chooser: u16, choice: u16) -> bool
     requires { ⌜ Seated slots choosers (now roster) ⌝ }
     ensures { λ r. ⌜ r ≡ isThere slots (now (roster .entry)) chooser choice ⌝ }
@@ -67,7 +76,7 @@ fn seated(slots: usize, choosers: usize, roster: &[u8], chooser: u16, choice: u1
     is_there(choice, cells_of(slots, choosers, roster, chooser as usize))
 }
 
-// Kind 11: 'omitted, or chooser there'.
+// Kind 11: whether the choice is 'omitted, or chooser there'.
 fn keeps_chooser_in(
     slots: usize,
     choosers: usize,
@@ -85,7 +94,8 @@ fn keeps_chooser_in(
     seated(slots, choosers, roster, chooser, choice)
 }
 
-// Kind 13: 'equal sorted lists of choices': each choice stands equally often in the cells of both.
+// Kind 13: whether two choosers have 'equal sorted lists of choices': each choice stands equally often in the
+// cells of both.
 fn same_choices(
     choices: usize,
     slots: usize,
@@ -95,7 +105,10 @@ fn same_choices(
     right: u16,
 ) -> bool
     requires { ⌜ (Seated slots choosers (now roster)) × (choices ≤ 64) ⌝ }
-    ensures { λ r. ⌜ r ≡ equalLists (choicesOf choices slots (now (roster .entry)) left) (choicesOf choices slots (now (roster .entry)) right) ⌝ }
+    ensures { λ r.
+        let leftChoices = choicesOf choices slots (now (roster .entry)) left in
+        let rightChoices = choicesOf choices slots (now (roster .entry)) right in
+        ⌜ r ≡ equalLists leftChoices rightChoices ⌝ }
 {
     let ours = tally(cells_of(slots, choosers, roster, left as usize));
     let theirs = tally(cells_of(slots, choosers, roster, right as usize));
@@ -109,7 +122,7 @@ fn same_choices(
     true
 }
 
-// Whether the roster keeps a number's row.
+// Whether a roster keeps the row that a number stands for.
 fn keeps_assignment_row(
     choices: usize,
     slots: usize,
@@ -119,7 +132,9 @@ fn keeps_assignment_row(
     number: u64,
 ) -> bool
     requires { ⌜ (Seated slots choosers (now roster)) × (choices ≤ 64) ⌝ }
-    ensures { λ r. ⌜ r ≡ keepsAssignmentRow choices slots choosers (now (plan .entry)) (now (roster .entry)) (rowOf number) ⌝ }
+    ensures { λ r.
+        let row = rowOf number in
+        ⌜ r ≡ keepsAssignmentRow choices slots choosers (now (plan .entry)) (now (roster .entry)) row ⌝ }
 {
     let left = Row::left_of(number);
     let right = Row::right_of(number);
@@ -146,7 +161,7 @@ fn keeps_assignment_row(
     }
 }
 
-// Whether the roster keeps every row of its list.
+// Whether a roster keeps every row of a list, on what has a roster's shape.
 fn keeps_each_row(
     choices: usize,
     slots: usize,
@@ -156,7 +171,8 @@ fn keeps_each_row(
     rows: &[u64],
 ) -> bool
     requires { ⌜ (Seated slots choosers (now roster)) × (choices ≤ 64) ⌝ }
-    ensures { λ r. ⌜ r ≡ keepsAssignmentRows choices slots choosers (now (plan .entry)) (now (roster .entry)) (now (rows .entry)) ⌝ }
+    ensures { λ r. ⌜ r ≡ keepsAssignmentRows choices slots choosers (now (plan .entry)) (now (roster .entry))
+        (now (rows .entry)) ⌝ }
 {
     let mut i = 0;
     while i < rows.len() {
@@ -168,7 +184,7 @@ fn keeps_each_row(
     true
 }
 
-// Whether a roster keeps every row of kinds 10 to 13 of a list; what has no roster's shape keeps nothing.
+// Whether a roster keeps every row of a list, kinds 10 to 13; what has no roster's shape keeps nothing.
 pub fn keeps_assignment_rows(
     choices: usize,
     slots: usize,
@@ -177,7 +193,8 @@ pub fn keeps_assignment_rows(
     roster: &[u8],
     rows: &[u64],
 ) -> bool
-    ensures { λ r. ⌜ r ≡ rosterKeeps choices slots choosers (now (plan .entry)) (now (roster .entry)) (now (rows .entry)) ⌝ }
+    ensures { λ r. ⌜ r ≡ rosterKeeps choices slots choosers (now (plan .entry)) (now (roster .entry))
+        (now (rows .entry)) ⌝ }
 {
     if 64 < choices {
         return false;

@@ -1,20 +1,14 @@
 // The cells of a chooser, and what they name.
+use base_pools::wide;
 ghost use mathlib.Core.Path.{_≡_};
 ghost use Prim.Native.Nat.{_≤_};
 ghost use lib.ListN.{length, replicate};
 ghost use lib.Dec.{eqb};
-ghost use Rattle.lists.specs.Below.{one};
-ghost use Rattle.lists.specs.Group.{timesIn};
-ghost use Rattle.lists.specs.Keep.{anyOf};
+ghost use Rattle.base_lists.specs.Below.{one};
+ghost use Rattle.base_lists.specs.Group.{timesIn};
+ghost use Rattle.base_lists.specs.Keep.{anyOf};
 ghost use Rattle.roster_rows.specs.Cells.{cellsOf};
 ghost use Rattle.roster_rows.specs.steps.Shapes.{Seated, Tally};
-
-// A byte as an index.
-pub(crate) fn wide(byte: u8) -> usize
-    ensures { λ r. ⌜ (r ≡ byte) × (r ≤ 255) ⌝ }
-{
-    byte as usize
-}
 
 // The cells of a chooser; a chooser past the last has none.
 pub(crate) fn cells_of(slots: usize, choosers: usize, roster: &[u8], chooser: usize) -> &[u8]
@@ -29,8 +23,8 @@ pub(crate) fn cells_of(slots: usize, choosers: usize, roster: &[u8], chooser: us
     &roster[from..end]
 }
 
-// A count for each byte, all 0.
-fn no_times() -> [u8; 256]
+// For each byte 0: not counted yet, not marked.
+pub(crate) fn none_yet() -> [u8; 256]
     ensures { λ r. ⌜ r ≡ replicate 256 0 ⌝ }
 {
     [0u8; 256]
@@ -56,7 +50,7 @@ pub(crate) fn times_in(choice: u16, cells: &[u8]) -> usize
     times
 }
 
-// 'chooser there': whether a cell names the choice.
+// 'chooser there': whether one of the cells names a choice.
 pub(crate) fn is_there(choice: u16, cells: &[u8]) -> bool
     ensures { λ r. ⌜ r ≡ anyOf (eqb choice) (now (cells .entry)) ⌝ }
 {
@@ -75,7 +69,7 @@ pub(crate) fn tally(cells: &[u8]) -> [u8; 256]
     requires { ⌜ length (now cells) ≤ 24 ⌝ }
     ensures { λ r. ⌜ Tally (now (cells .entry)) r ⌝ }
 {
-    let mut times = no_times();
+    let mut times = none_yet();
     let mut s = 0;
     while s < cells.len() {
         let at = wide(cells[s]);

@@ -1,4 +1,7 @@
-// The rows of kinds 10 to 13, which bind a roster: who shares a choice, who is in it, and who shares all choices.
+// A roster's rows and cells: the rows of kinds 10 to 13, what cells must name, the slots of a chooser's
+// cells, and the seats of a choice.
 
 pub mod assignment;
 mod cells;
+pub mod judge;
+pub mod seats;

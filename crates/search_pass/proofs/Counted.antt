@@ -4,9 +4,9 @@ use mathlib.Core.Bool.{Bool, true, false}
 use mathlib.Core.List.{List}
 use Prim.Native.Nat.{ℕ, _+_, _-_, _≤_, _<_, _^_}
 use lib.ListN.{length, getD, set}
-use Rattle.lists.specs.Flat.{listBelow}
-use Rattle.scheduling.specs.Plan.{sumIn, countIn}
-use Rattle.search_state.specs.declared.state.SearchState.{SearchState}
+use Rattle.base_lists.specs.Flat.{listBelow}
+use Rattle.plan_check.specs.Plan.{sumIn, countIn}
+use Rattle.search_turn.specs.declared.state.SearchState.{SearchState}
 
 -- each slot's sum of min, sum of max and count are those of the decisions
 pub record Counted (mins maxs : List ℕ) (state : SearchState) : Type 0 where
@@ -21,7 +21,8 @@ pub record Known (mins maxs : List ℕ) (choice : ℕ) : Type 0 where
   pub min-there : choice < length mins
   pub max-there : choice < length maxs
 
--- the state after a decision: the choice's byte is the place, sums and counts are the decisions' again, and depth, its newness and what remains are as told
+-- the state after a decision: the choice's byte is the place, sums and counts are the decisions' again, and
+-- depth, its newness and what remains are as told
 pub record Moved (mins maxs : List ℕ) (state : SearchState) (choice place depth : ℕ) (new : Bool) (remaining : ℕ) (after : SearchState) : Type 0 where
   pub decisions : after .decisions ≡ set (state .decisions) choice place
   pub counted : Counted mins maxs after
@@ -46,12 +47,12 @@ pub record CanClear (mins maxs order : List ℕ) (state : SearchState) : Type 0 
   pub counted : Counted mins maxs state
   pub fits : state .remaining + getD maxs (getD order (state .depth - 1) 0) 0 < 2 ^ 32
 
--- the state a step down, the depth's choice at a place
+-- the state after a step down, the depth's choice at a place
 abbrev pub WentDown : List ℕ → List ℕ → List ℕ → SearchState → ℕ → SearchState → Type 0
 WentDown mins maxs order state place after =
     Moved mins maxs state (getD order (state .depth) 0) place (state .depth + 1) true (state .remaining - getD maxs (getD order (state .depth) 0) 0) after
 
--- the state a step back, the choice above undecided
+-- the state after a step back, the choice above undecided
 abbrev pub WentBack : List ℕ → List ℕ → List ℕ → SearchState → SearchState → Type 0
 WentBack mins maxs order state after =
     Moved mins maxs state (getD order (state .depth - 1) 0) 254 (state .depth - 1) false (state .remaining + getD maxs (getD order (state .depth - 1) 0) 0) after

@@ -1,12 +1,13 @@
--- What is decided along a pass: a choice that comes later in the order is undecided, and a step back undoes a step down.
+-- What is decided along a pass: a choice that comes later in the order is undecided, and a step back undoes a
+-- step down.
 use mathlib.Core.Path.{_≡_, refl, sym, _∙_, ap}
 use mathlib.Core.List.{List, [], _∷_}
 use Prim.Native.Nat.{ℕ, _≤_, _<_}
 use native.Mathlib.Omega.{arith}
 use lib.ListN.{length, getD, set, replicate, length-replicate, length-set, getD-replicate}
 use lib.Seq.{getD-set-other, set-set, set-getD}
-use Rattle.rows_allow.specs.Allow.{undecided}
-use Rattle.pass_rules.specs.Decided.{decided}
+use Rattle.search_candidates.specs.Allow.{undecided}
+use Rattle.search_rules.specs.Decided.{decided}
 
 -- an entry for each choice that there may be
 pub decided-length : (order places : List ℕ) → length (decided order places) ≡ 64

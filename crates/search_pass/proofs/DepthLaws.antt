@@ -7,29 +7,29 @@ use native.Mathlib.Omega.{arith}
 use borrow.Author.Tests.{le-leb, lt-ltb, eq-eqb}
 use lib.Dec.{ltb}
 use lib.ListN.{length, set, take, drop}
-use Rattle.lists.specs.Pool.{window}
-use Rattle.candidates.specs.Loads.{Loads}
-use Rattle.candidates.specs.Bucket.{bucketOf, drawsOne, Written, written, bucketFits, fillOf}
-use Rattle.pass_rules.specs.Pass.{Lent, lentOf, choiceAt, remainingAt, nextDraw}
-use Rattle.search_depth.specs.steps.Opening.{depthFrom, askedFrom, openOf, Opening, opening, opensAt, openedBy, openingOf}
+use Rattle.base_lists.specs.Pool.{window}
+use Rattle.search_candidates.specs.Loads.{Loads}
+use Rattle.search_candidates.specs.Bucket.{bucketOf, drawsOne, Written, written, bucketFits, fillOf}
+use Rattle.search_rules.specs.Pass.{Lent, lentOf, choiceAt, remainingAt, nextDraw}
+use Rattle.search_turn.specs.steps.Opening.{depthFrom, askedFrom, openOf, Opening, opening, opensAt, openedBy, openingOf}
 use Rattle.search_pass.specs.steps.Taken.{Taken}
 use Rattle.search_pass.proofs.Standing.{made, Held, Opened}
 use Rattle.search_pass.proofs.StackLaws.{opened-left, opened-made, held-new, window-size}
 
--- its candidates, by the sums and counts as the code has them; there are none at depth C
+-- the candidates of a depth, by the sums and counts as the code has them; there are none at depth C
 unfoldable pub candidatesFrom : Lent → Loads → ℕ → ℕ → List ℕ
 candidatesFrom lent loads depth draw =
     cond (ltb depth (lent .day .counts .choices)) (bucketOf (askedFrom lent loads depth draw (remainingAt lent depth))) []
 
--- whether making them uses a draw
+-- whether making the candidates of a depth uses a draw
 unfoldable pub drewFrom : Lent → Loads → ℕ → ℕ → Bool
 drewFrom lent loads depth draw = ltb depth (lent .day .counts .choices) && drawsOne (askedFrom lent loads depth draw (remainingAt lent depth))
 
--- the place of the next draw once they are made
+-- the place of the next draw once the candidates are made
 unfoldable pub drawFrom : Lent → Loads → ℕ → ℕ → ℕ
 drawFrom lent loads depth draw = cond (drewFrom lent loads depth draw) (nextDraw (lent .draws) draw) draw
 
--- full or as the Rust: no candidate hangs on it
+-- no candidate hangs on whether the search is full or as the Rust
 abbrev pub asFull : Lent → Lent
 asFull lent = lentOf true (lent .day) (lent .map) (lent .whole) (lent .order) (lent .sets) (lent .draws)
 
@@ -52,12 +52,12 @@ module _ (lent : Lent) (t : Taken lent) (loads : Loads) (depth draw : ℕ) where
       go false e = rw e
 
   module _ (new : Bool) (remaining : ℕ) (pool next end : List ℕ) (few : depth ≤ 64) (h : Held pool next end (made new depth)) (m : remaining ≡ remainingAt lent depth) where
-    -- a depth that isn't new is left
+    -- a depth that isn't new is left as it was
     opening-old : new ≡ false → openingOf (asFull lent) loads new depth draw remaining pool next end ≡ opening draw pool next end
     unfolding openingOf opensAt
     opening-old e = rw e
 
-    -- a new one is made
+    -- a new depth's candidates are made
     opening-new : new ≡ true → openingOf (asFull lent) loads new depth draw remaining pool next end
         ≡ openedBy (openOf (askedFrom lent loads depth draw remaining) depth (window (25 * depth) 25 pool)) (lent .draws) depth draw pool next end
     unfolding openingOf opensAt askedFrom depthFrom choiceAt

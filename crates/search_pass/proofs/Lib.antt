@@ -1,14 +1,14 @@
 -- The laws of one pass.
-pub mod Standing
 pub mod Counted
-pub mod Turning
 pub mod DecidedLaws
+pub mod DepthLaws
 pub mod LoadLaws
-pub mod StateLaws
-pub mod StepLaws
+pub mod PassLaws
+pub mod PlanLaws
 pub mod SightLaws
 pub mod StackLaws
-pub mod DepthLaws
+pub mod Standing
+pub mod StateLaws
+pub mod StepLaws
 pub mod TurnLaws
-pub mod PlanLaws
-pub mod PassLaws
+pub mod Turning

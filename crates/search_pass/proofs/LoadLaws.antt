@@ -9,15 +9,15 @@ use borrow.Author.Tests.{eq-eqb, ne-eqb}
 use lib.Dec.{eqb}
 use lib.ListN.{length, getD, set, replicate, length-set, length-replicate, getD-replicate}
 use lib.Seq.{getD-set-same, getD-set-other, ext-getD}
-use Rattle.lists.specs.Below.{sumBelow}
-use Rattle.lists.specs.Flat.{listBelow}
-use Rattle.lists.proofs.Sums.{count-sum}
-use Rattle.lists.proofs.SumBelow.{sum-ext, sum-zeros}
-use Rattle.lists.proofs.Flat.{length-list, getD-list, list-ext}
-use Rattle.lists.proofs.Lists.{getD-any}
-use Rattle.scheduling.specs.Plan.{slotOf, omitted, standsIn, countIn, sumUpTo, sumIn}
-use Rattle.plan_rows.proofs.PlanLaws.{stands-by, stands-omitted}
-use Rattle.scheduling.proofs.SumLaws.{sum-fits}
+use Rattle.base_lists.specs.Below.{sumBelow}
+use Rattle.base_lists.specs.Flat.{listBelow}
+use Rattle.base_lists.proofs.Sums.{count-sum}
+use Rattle.base_lists.proofs.SumBelow.{sum-ext, sum-zeros}
+use Rattle.base_lists.proofs.Flat.{length-list, getD-list, list-ext}
+use Rattle.base_lists.proofs.Lists.{getD-any}
+use Rattle.plan_check.specs.Plan.{slotOf, omitted, standsIn, countIn, sumUpTo, sumIn}
+use Rattle.plan_check.proofs.PlanLaws.{stands-by, stands-omitted}
+use Rattle.plan_check.proofs.SumLaws.{sum-fits}
 
 -- two sums that differ at one place only
 sum-apart : (n : ℕ) (f g : ℕ → ℕ) (c : ℕ) → c < n → ((k : ℕ) → k < n → (k ≡ c → ⊥) → f k ≡ g k) → sumBelow n f + g c ≡ sumBelow n g + f c
@@ -55,7 +55,7 @@ here byte slot amount = cond (eqb byte slot) amount 0
 unfoldable pub total : (ℕ → ℕ) → List ℕ → ℕ → ℕ
 total amount decisions slot = sumUpTo (length decisions) amount decisions slot
 
--- each slot's
+-- the sum of each slot, for any amounts
 unfoldable pub listed : (ℕ → ℕ) → List ℕ → List ℕ
 listed amount decisions = listBelow 24 (total amount decisions)
 
@@ -92,7 +92,7 @@ unfolding slotOf
 slot-is d c h = getD-any d c 255 254 h
 
 module _ (amount : ℕ → ℕ) (d : List ℕ) (c : ℕ) (h : c < length d) where
-  -- before and after, each with what the choice adds in the other
+  -- the sums before and after a decision, each with what the choice adds in the other
   pub total-apart : (x slot : ℕ) → slot < 24 → total amount (set d c x) slot + here (getD d c 254) slot (amount c) ≡ total amount d slot + here x slot (amount c)
   unfolding total sumUpTo
   total-apart x slot b =
@@ -102,7 +102,7 @@ module _ (amount : ℕ → ℕ) (d : List ℕ) (c : ℕ) (h : c < length d) wher
 
   -- ---- each slot's sum
 
-  -- decided: its slot has the amount more
+  -- where a choice is decided, its slot has the amount more
   pub decided-in : (x : ℕ) → getD d c 254 ≡ 254 → x < 24 → listed amount (set d c x) ≡ set (listed amount d) x (getD (listed amount d) x 0 + amount c)
   unfolding listed
   decided-in x u b =
@@ -110,14 +110,14 @@ module _ (amount : ℕ → ℕ) (d : List ℕ) (c : ℕ) (h : c < length d) wher
       (λ k hk n. omega (arith, total-apart x k hk, here-other (getD d c 254) k (amount c) (λ z. omega arith), here-other x k (amount c) (λ z. n (sym z))))
       (omega (arith, total-apart x x b, here-other (getD d c 254) x (amount c) (λ z. omega arith), here-same x x (amount c) refl, getD-list 24 (total amount d) x 0 b))
 
-  -- decided to a byte that is no slot
+  -- where a choice is decided to a byte that is no slot, no slot's sum changes
   pub decided-out : (x : ℕ) → getD d c 254 ≡ 254 → 24 ≤ x → listed amount (set d c x) ≡ listed amount d
   unfolding listed
   decided-out x u b =
       list-ext 24 (total amount (set d c x)) (total amount d)
       (λ k hk. omega (arith, total-apart x k hk, here-other (getD d c 254) k (amount c) (λ z. omega arith), here-other x k (amount c) (λ z. omega arith)))
 
-  -- undecided again: its slot has the amount less
+  -- where a choice is undecided again, its slot has the amount less
   pub cleared-in : (x : ℕ) → x ≡ getD d c 254 → x < 24 → listed amount (set d c 254) ≡ set (listed amount d) x (getD (listed amount d) x 0 - amount c)
   unfolding listed
   cleared-in x e b =
@@ -131,12 +131,12 @@ module _ (amount : ℕ → ℕ) (d : List ℕ) (c : ℕ) (h : c < length d) wher
       list-ext 24 (total amount (set d c 254)) (total amount d)
       (λ k hk. omega (arith, total-apart 254 k hk, here-other (getD d c 254) k (amount c) (λ z. omega arith), here-other 254 k (amount c) (λ z. omega arith)))
 
--- sums of 64 amounts of 16 bits
+-- each slot's sum of 64 amounts of 16 bits
 pub listed-fits : (amount : ℕ → ℕ) (d : List ℕ) (x : ℕ) → length d ≡ 64 → ((k : ℕ) → amount k ≤ 65535) → x < 24 → getD (listed amount d) x 0 ≤ 65535 * 64
 unfolding listed total
 listed-fits amount d x l f b = omega (arith, getD-list 24 (λ slot. sumUpTo (length d) amount d slot) x 0 b, sum-fits amount d (length d) x f)
 
--- the sums and the counts of a state are such
+-- each slot's sums of min and max are sums for any amounts, and its count is one with 1 for each choice
 pub sums-listed : (amounts d : List ℕ) → listBelow 24 (sumIn amounts d) ≡ listed (λ k. getD amounts k 0) d
 unfolding listed total sumIn
 sums-listed amounts d = list-ext 24 _ _ (λ i h. refl)

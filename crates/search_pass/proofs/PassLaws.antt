@@ -3,17 +3,17 @@ use mathlib.Core.Path.{_≡_, refl, sym, _∙_, ap}
 use mathlib.Core.Bool.{true, false}
 use mathlib.Core.List.{List}
 use Prim.Native.Nat.{ℕ}
-use Rattle.pass_rules.specs.Pass.{Lent, passOf}
-use Rattle.search_pass.specs.Call.{Ended, found, without, wanting, passedTells, Leaves, leaves, leftBy, passFits, passLeaves}
+use Rattle.search_rules.specs.Pass.{Lent, passOf}
+use Rattle.search_pass.specs.steps.Call.{Ended, found, without, wanting, passedTells, Leaves, leaves, leftBy, passFits, passLeaves}
 use Rattle.search_pass.specs.declared.pass.Passed.{Passed}
 use Rattle.search_pass.specs.declared.pass.Passed.the-variants as passed
 
--- what is taken is walked
+-- what a pass takes is walked
 pub pass-taken : (lent : Lent) (budget draw : ℕ) (plan : List ℕ) → passFits lent plan ≡ true → passLeaves lent budget draw plan ≡ leftBy lent plan (passOf lent budget draw)
 unfolding passLeaves
 pass-taken lent budget draw plan e = rw e
 
--- what isn't has no plan, and leaves everything as it was
+-- what a pass doesn't take has no plan, and leaves everything as it was
 pub pass-refused : (lent : Lent) (budget draw : ℕ) (plan : List ℕ) → passFits lent plan ≡ false → passLeaves lent budget draw plan ≡ leaves (without budget draw) plan
 unfolding passLeaves
 pass-refused lent budget draw plan e = rw e

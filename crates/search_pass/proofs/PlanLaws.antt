@@ -8,16 +8,16 @@ use borrow.Author.Tests.{leb-true, eqb-true}
 use lib.Dec.{eqb, leb}
 use lib.ListN.{length, getD, drop, drop-of-length-le}
 use lib.Seq.{drop-cons}
-use Rattle.lists.specs.Keep.{sumOver}
-use Rattle.lists.proofs.Below.{and-left, and-right}
-use Rattle.constraint.specs.declared.check.Counts.{Counts}
-use Rattle.scheduling.specs.Day.{dayOf}
-use Rattle.scheduling.specs.Feasible.{lengthsFit, shapesFit}
-use Rattle.constraint_map.specs.Map.{Map}
-use Rattle.choice_order.specs.Order.{isPermutation}
-use Rattle.choice_order.proofs.OrderLaws.{permutation-length, below}
-use Rattle.pass_rules.specs.Pass.{Lent, lentOf, remainingAt, passOf}
-use Rattle.search_pass.specs.Call.{Leaves, leaves, without, leftBy, passFits, passLeaves}
+use Rattle.base_lists.specs.Keep.{sumOver}
+use Rattle.base_lists.proofs.Below.{and-left, and-right}
+use Rattle.day_rows.specs.declared.check.Counts.{Counts}
+use Rattle.plan_check.specs.Day.{dayOf}
+use Rattle.plan_check.specs.Feasible.{lengthsFit, shapesFit}
+use Rattle.search_map.specs.Map.{Map}
+use Rattle.search_order.specs.Order.{isPermutation}
+use Rattle.search_order.proofs.OrderLaws.{permutation-length, below}
+use Rattle.search_rules.specs.Pass.{Lent, lentOf, remainingAt, passOf}
+use Rattle.search_pass.specs.steps.Call.{Leaves, leaves, without, leftBy, passFits, passLeaves}
 use Rattle.search_pass.specs.steps.Taken.{Taken, partOf, Within}
 
 -- ---- the maximums summed
@@ -51,7 +51,7 @@ module _ (order maxs : List ℕ) where
   unfolding Within
   choice-there i choice w h e = rw e (w i h)
 
--- at depth 0 all of them remain
+-- at depth 0 all maximums remain
 pub remains-all : (lent : Lent) (remaining : ℕ) → remaining ≡ sumOver (λ choice. getD (lent .day .maxs) choice 0) (lent .order) → remaining ≡ remainingAt lent 0
 unfolding remainingAt
 remains-all lent remaining e = e

@@ -8,11 +8,11 @@ use borrow.Author.Tests.{le-leb, eq-eqb}
 use lib.Dec.{ltb}
 use lib.ListN.{length, take}
 use lib.Seq.{length-take-le}
-use Rattle.scheduling.specs.Feasible.{feasible, lengthsFit, shapesFit, isFeasible}
-use Rattle.search_walk.specs.Walk.{on}
-use Rattle.pass_rules.specs.Decided.{decided}
-use Rattle.pass_rules.specs.Pass.{Lent, sightFull, sightAsTheRust, planOf, sightAt}
-use Rattle.search_sight.specs.steps.Seen.{sightFrom, planLeft}
+use Rattle.plan_check.specs.Feasible.{feasible, lengthsFit, shapesFit, isFeasible}
+use Rattle.search_rules.specs.Walk.{on}
+use Rattle.search_rules.specs.Decided.{decided}
+use Rattle.search_rules.specs.Pass.{Lent, sightFull, sightAsTheRust, planOf, sightAt}
+use Rattle.search_turn.specs.steps.Seen.{sightFrom, planLeft}
 use Rattle.search_pass.specs.steps.Taken.{Taken}
 use Rattle.search_pass.proofs.DecidedLaws.{decided-length}
 

@@ -7,7 +7,7 @@ use native.Mathlib.Decide.{ℕ-discrete}
 use native.Mathlib.Omega.{arith}
 use lib.ListN.{length, getD, set, take, drop, length-set, length-drop, length-append, take-append-drop}
 use lib.Seq.{length-take-le, drop-append-le, take-append-le, take-at, drop-at, drop-cons, getD-set-same, getD-set-other}
-use Rattle.lists.specs.Pool.{window}
+use Rattle.base_lists.specs.Pool.{window}
 use Rattle.search_pass.proofs.Standing.{stackOf, made, Held, Opened}
 
 -- ---- windows
@@ -34,14 +34,14 @@ window-some a b l h k =
     let f : suc a ≡ a + 1 = omega arith in
     rw (e, drop-cons l a 0 (omega arith), f)
 
--- one with none
+-- a window with no entry
 window-none : (a b : ℕ) (l : List ℕ) → b ≤ a → window a (b - a) l ≡ []
 unfolding window
 window-none a b l h =
     let e : b - a ≡ 0 = omega arith in
     rw e
 
--- as many entries as it is asked for
+-- a window has as many entries as it is asked for
 pub window-size : (a s : ℕ) (l : List ℕ) → a + s ≤ length l → length (window a s l) ≡ s
 unfolding window
 window-size a s l h = length-take-le s (drop a l) (omega (arith, length-drop a l))
@@ -76,19 +76,19 @@ module _ (pool next end : List ℕ) (depth : ℕ) (h : Held pool next end (suc d
   pub next-there : getD next depth 0 < getD end depth 0 → getD next depth 0 < 1625
   next-there b = omega (arith, h .ends depth (omega arith))
 
-  -- a candidate is there
+  -- the next candidate is there
   pub stack-some : getD next depth 0 < getD end depth 0
       → stackOf pool next end (suc depth) ≡ (getD pool (getD next depth 0) 0 ∷ window (getD next depth 0 + 1) (getD end depth 0 - (getD next depth 0 + 1)) pool) ∷ stackOf pool next end depth
   stack-some b =
       stack-top pool next end depth
       ∙ ap (λ (x : List ℕ). x ∷ stackOf pool next end depth) (window-some (getD next depth 0) (getD end depth 0) pool b (omega (arith, h .ends depth (omega arith), h .pool-length)))
 
-  -- none is
+  -- no candidate is left
   pub stack-none : getD end depth 0 ≤ getD next depth 0 → stackOf pool next end (suc depth) ≡ [] ∷ stackOf pool next end depth
   stack-none b =
       stack-top pool next end depth ∙ ap (λ (x : List ℕ). x ∷ stackOf pool next end depth) (window-none (getD next depth 0) (getD end depth 0) pool b)
 
-  -- the next one taken
+  -- the next candidate taken
   pub stack-taken : stackOf pool (set next depth (getD next depth 0 + 1)) end (suc depth)
       ≡ window (getD next depth 0 + 1) (getD end depth 0 - (getD next depth 0 + 1)) pool ∷ stackOf pool next end depth
   stack-taken =
@@ -134,7 +134,7 @@ held-back pool next end n m b h =
 
 -- ---- a depth opened
 
--- those of another depth are as they were left
+-- the candidates of a depth that isn't new are as they were left
 pub opened-left : (candidates : List ℕ) (drawn : ℕ) (new : Bool) (depth draw : ℕ) (pool next end : List ℕ) → new ≡ false → Held pool next end (made new depth)
     → Opened candidates drawn new depth draw pool next end draw pool next end
 unfolding made

@@ -1,10 +1,11 @@
--- How the code holds a state of the walk: candidates of all depths in one list, where the next of each depth stands and where they end.
+-- How the code holds a state of the walk: candidates of all depths in one list, where the next of each depth
+-- stands and where they end.
 use mathlib.Core.Path.{_≡_}
 use mathlib.Core.Bool.{Bool, cond}
 use mathlib.Core.List.{List, [], _∷_}
 use Prim.Native.Nat.{ℕ, zero, suc, _+_, _*_, _-_, _≤_, _<_}
 use lib.ListN.{length, getD}
-use Rattle.lists.specs.Pool.{window}
+use Rattle.base_lists.specs.Pool.{window}
 
 -- the candidates left at each of the first depths, deepest first
 unfoldable pub stackOf : List ℕ → List ℕ → List ℕ → ℕ → List (List ℕ)

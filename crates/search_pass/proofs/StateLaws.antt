@@ -7,10 +7,10 @@ use native.Mathlib.Omega.{arith}
 use borrow.Author.Tests.{le-ltb, le-leb, lt-leb, ne-eqb, leb-true, leb-false}
 use lib.Dec.{leb}
 use lib.ListN.{length, getD, set, length-set}
-use Rattle.lists.proofs.Lists.{getD-any}
-use Rattle.search_state.specs.declared.state.SearchState.{SearchState}
+use Rattle.base_lists.proofs.Lists.{getD-any}
+use Rattle.search_turn.specs.declared.state.SearchState.{SearchState}
 use Rattle.search_pass.proofs.Counted.{Counted, Known, Moved, CanDecide, CanClear, WentDown, WentBack}
-use Rattle.search_state.specs.steps.State.{moreOf, withDepth, decidedOf, clearedOf, downOf, backOf}
+use Rattle.search_turn.specs.steps.State.{moreOf, withDepth, decidedOf, clearedOf, downOf, backOf}
 use Rattle.search_pass.proofs.LoadLaws.{listed, decided-in, decided-out, cleared-in, cleared-out, listed-fits, sums-listed, counts-listed}
 
 -- the state with other decisions and sums

@@ -4,13 +4,13 @@ use mathlib.Core.List.{List}
 use Prim.Native.Nat.{ℕ, _+_, _≤_, _<_}
 use borrow.Author.Tests.{le-ltb, le-leb, lt-leb}
 use lib.ListN.{getD, set}
-use Rattle.search_state.specs.declared.state.SearchState.{SearchState}
-use Rattle.search_state.specs.steps.State.{downOf, backOf, Turning, turning, turnOf}
+use Rattle.search_turn.specs.declared.state.SearchState.{SearchState}
+use Rattle.search_turn.specs.steps.State.{downOf, backOf, Turning, turning, turnOf}
 use Rattle.search_pass.proofs.Counted.{WentDown, WentBack}
-use Rattle.search_pass.proofs.Turning.{Ready, Turned}
+use Rattle.search_pass.proofs.Turning.{TurnReady, Turned}
 use Rattle.search_pass.proofs.StateLaws.{went-down, went-back}
 
-module _ (mins maxs order : List ℕ) (state : SearchState) (pool next end : List ℕ) (k : Ready mins maxs order state next end) where
+module _ (mins maxs order : List ℕ) (state : SearchState) (pool next end : List ℕ) (k : TurnReady mins maxs order state next end) where
   turn-down : getD next (state .depth) 0 < getD end (state .depth) 0
       → turnOf mins maxs order state pool next end ≡ turning (downOf mins maxs order state (getD pool (getD next (state .depth) 0) 0)) (set next (state .depth) (getD next (state .depth) 0 + 1))
   unfolding turnOf

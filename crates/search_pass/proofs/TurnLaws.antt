@@ -9,23 +9,23 @@ use borrow.Author.Tests.{ltb-true, ltb-false, leb-true, eqb-true, le-leb, eq-eqb
 use lib.Dec.{eqb, ltb, leb}
 use lib.ListN.{length, getD, set, take, drop, replicate, length-replicate}
 use lib.Seq.{drop-cons}
-use Rattle.lists.specs.Keep.{sumOver}
-use Rattle.lists.specs.Pool.{window}
-use Rattle.lists.proofs.Below.{and-left, and-right}
-use Rattle.search_walk.specs.Walk.{Sight, goal, over, on, Out, hit, dry, cut, opened, used, walk, pass}
-use Rattle.search_walk.proofs.WalkLaws.{opened-new, opened-old, used-new, used-old, walk-goal, walk-over, walk-cut, walk-close, walk-back, walk-down, pass-walk}
-use Rattle.choice_order.proofs.OrderLaws.{permutation-length, below, distinct}
-use Rattle.candidates.specs.Loads.{Loads, loadsOf}
-use Rattle.pass_rules.specs.Decided.{decided, loadsAt}
-use Rattle.pass_rules.specs.Pass.{Lent, remainingAt, depthAt, askedAt, candidatesAt, drawAfter, planOf, sightAt, passOf}
-use Rattle.search_sight.specs.steps.Seen.{sightFrom}
-use Rattle.search_state.specs.steps.State.{closesAt, turning, turnOf}
-use Rattle.search_depth.specs.steps.Opening.{depthFrom, askedFrom, opening, openingOf}
-use Rattle.search_pass.specs.Call.{leaves, found, without, wanting, leftBy}
-use Rattle.search_state.specs.declared.state.SearchState.{SearchState}
+use Rattle.base_lists.specs.Keep.{sumOver}
+use Rattle.base_lists.specs.Pool.{window}
+use Rattle.base_lists.proofs.Below.{and-left, and-right}
+use Rattle.search_rules.specs.Walk.{Sight, goal, over, on, Out, hit, dry, cut, opened, used, walk, pass}
+use Rattle.search_rules.proofs.WalkLaws.{opened-new, opened-old, used-new, used-old, walk-goal, walk-over, walk-cut, walk-close, walk-back, walk-down, pass-walk}
+use Rattle.search_order.proofs.OrderLaws.{permutation-length, below, distinct}
+use Rattle.search_candidates.specs.Loads.{Loads, loadsOf}
+use Rattle.search_rules.specs.Decided.{decided, loadsAt}
+use Rattle.search_rules.specs.Pass.{Lent, remainingAt, depthAt, askedAt, candidatesAt, drawAfter, planOf, sightAt, passOf}
+use Rattle.search_turn.specs.steps.Seen.{sightFrom}
+use Rattle.search_turn.specs.steps.State.{closesAt, turning, turnOf}
+use Rattle.search_turn.specs.steps.Opening.{depthFrom, askedFrom, opening, openingOf}
+use Rattle.search_pass.specs.steps.Call.{leaves, found, without, wanting, leftBy}
+use Rattle.search_turn.specs.declared.state.SearchState.{SearchState}
 use Rattle.search_pass.proofs.Counted.{Counted, Known, Moved}
 use Rattle.search_pass.specs.steps.Taken.{Taken}
-use Rattle.search_pass.proofs.Turning.{Ready, Turned}
+use Rattle.search_pass.proofs.Turning.{TurnReady, Turned}
 use Rattle.search_pass.proofs.StepLaws.{turned-of}
 use Rattle.search_pass.proofs.Standing.{stackOf, made, Held, Opened}
 use Rattle.search_pass.proofs.DecidedLaws.{decided-none, decided-more, later-undecided, step-back}
@@ -223,7 +223,7 @@ module _ (lent : Lent) (whole : Out) (left : ℕ) (new : Bool) (depth draw remai
           let c : choice < lent .day .counts .choices = rw q (below _ _ (t .ordered) depth (down-within b)) in
           record { few = omega (arith, t .few-choices); min-there = omega (arith, t .mins-fit); max-there = omega (arith, t .maxs-fit) }
 
-      -- its choice is undecided
+      -- the choice of a step down is undecided
       pub down-undecided : getD (state .decisions) choice 254 ≡ 254
       down-undecided =
           rw (k .decides, q)
@@ -334,7 +334,7 @@ standing-by : (lent : Lent) (whole : Out) (left draw : ℕ) (state : SearchState
     → Standing lent whole left new' depth' draw remaining' state pool next end
 standing-by lent whole left draw state pool next end new new' depth depth' remaining remaining' d n m k = rw (d, n, m) k
 
--- as a state has them
+-- depth, newness and what remains, as a state has them
 standing-in : (lent : Lent) (whole : Out) (left draw : ℕ) (state : SearchState) (pool next end : List ℕ) (new : Bool) (depth remaining : ℕ)
     → state .depth ≡ depth → state .«is_new» ≡ new → state .remaining ≡ remaining
     → Standing lent whole left new depth draw remaining state pool next end
@@ -375,7 +375,7 @@ module _ (lent : Lent) (whole : Out) (left draw : ℕ) (state : SearchState) (po
     ]
 
     -- what the turn asks for
-    ready-of : ((i : ℕ) → getD (lent .day .maxs) i 0 ≤ 65535) → Ready (lent .day .mins) (lent .day .maxs) (lent .order) state next' end'
+    ready-of : ((i : ℕ) → getD (lent .day .maxs) i 0 ≤ 65535) → TurnReady (lent .day .mins) (lent .day .maxs) (lent .order) state next' end'
     ready-of f =
         let new = state .«is_new» in
         let depth = state .depth in

@@ -3,11 +3,11 @@ use mathlib.Core.Path.{_≡_}
 use mathlib.Core.List.{List}
 use Prim.Native.Nat.{ℕ, _+_, _≤_, _<_}
 use lib.ListN.{getD, set}
-use Rattle.search_state.specs.declared.state.SearchState.{SearchState}
+use Rattle.search_turn.specs.declared.state.SearchState.{SearchState}
 use Rattle.search_pass.proofs.Counted.{CanDecide, CanClear, WentDown, WentBack}
 
 -- a turn can be made: down where a candidate is left, back where none is
-pub record Ready (mins maxs order : List ℕ) (state : SearchState) (next end : List ℕ) : Type 0 where
+pub record TurnReady (mins maxs order : List ℕ) (state : SearchState) (next end : List ℕ) : Type 0 where
   pub few : state .depth ≤ 64
   pub there : getD next (state .depth) 0 < getD end (state .depth) 0 → getD next (state .depth) 0 < 1625
   pub down : getD next (state .depth) 0 < getD end (state .depth) 0 → CanDecide mins maxs order state

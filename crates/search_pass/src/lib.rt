@@ -1,2 +1,3 @@
 // One pass of the search.
+
 pub mod pass;

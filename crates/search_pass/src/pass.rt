@@ -1,23 +1,24 @@
 // One pass: turns down and back until a plan, an end, or a turn that isn't there.
-use choice_order::is_permutation;
-use constraint::check::Counts;
-use pools::wide;
-use search_depth::depth::open_if_new;
-use search_sight::plan::write_plan;
-use search_sight::shape::shapes_fit;
-use search_sight::sight::Sight;
-use search_sight::sight::sight_at;
-use search_state::state::SearchState;
-use search_state::turn::closes;
-use search_state::turn::turned;
+use base_pools::number::wide_amount;
+use base_pools::wide;
+use day_rows::check::Counts;
+use search_order::is_permutation;
+use search_turn::depth::open_if_new;
+use search_turn::plan::write_plan;
+use search_turn::shape::shapes_fit;
+use search_turn::sight::Sight;
+use search_turn::sight::sight_at;
+use search_turn::state::SearchState;
+use search_turn::turn::closes;
+use search_turn::turn::turned;
 ghost use mathlib.Core.Path.{_≡_};
 ghost use Prim.Native.Nat.{_≤_};
 ghost use lib.ListN.{length, getD};
-ghost use Rattle.lists.specs.Keep.{sumOver};
-ghost use Rattle.scheduling.specs.Day.{dayOf};
-ghost use Rattle.constraint_map.specs.Map.{mapOf};
-ghost use Rattle.pass_rules.specs.Pass.{lentOf, passOf};
-ghost use Rattle.search_pass.specs.Call.{leaves, passedTells, leftBy, passFits, passLeaves};
+ghost use Rattle.base_lists.specs.Keep.{sumOver};
+ghost use Rattle.plan_check.specs.Day.{dayOf};
+ghost use Rattle.search_map.specs.Map.{mapOf};
+ghost use Rattle.search_rules.specs.Pass.{lentOf, passOf};
+ghost use Rattle.search_pass.specs.steps.Call.{leaves, passedTells, leftBy, passFits, passLeaves};
 ghost use Rattle.search_pass.specs.steps.Taken.{Taken, partOf, Within};
 
 // How a pass ended, with the turns left and the place of the next draw.
@@ -25,13 +26,6 @@ pub enum Passed {
     Found { left: u64, draw: usize },
     Without { left: u64, draw: usize },
     Wanting { draw: usize },
-}
-
-// A max as wide as the sums.
-fn wide_amount(amount: u16) -> u32
-    ensures { λ r. ⌜ (r ≡ amount) × (r ≤ 65535) ⌝ }
-{
-    amount as u32
 }
 
 // The sum of every choice's max: what remains at depth 0.
@@ -48,21 +42,21 @@ fn all_max(order: &[u8], maxs: &[u16]) -> u32
     sum
 }
 
-// The candidates of 65 depths, 25 each.
+// Room for the candidates of 65 depths, 25 each.
 fn no_candidates() -> [u8; 1625]
     ensures { λ r. ⌜ length r ≡ 1625 ⌝ }
 {
     [0u8; 1625]
 }
 
-// A place for each of 65 depths.
+// Room for a place of each of 65 depths: where its candidates go on, or where they end.
 fn no_places() -> [usize; 65]
     ensures { λ r. ⌜ length r ≡ 65 ⌝ }
 {
     [0usize; 65]
 }
 
-// The walk of a pass whose day and order are taken.
+// The walk of a pass whose day and order are taken: turns until a plan, an end, or a turn that isn't there.
 fn walk_pass<'a>(
     counts: Counts,
     full: bool,
@@ -81,9 +75,17 @@ fn walk_pass<'a>(
     first_draw: usize,
     plan: &mut [u8],
 ) -> Passed
-    requires { ⌜ Taken (lentOf full (dayOf counts (now mins) (now maxs) (now optional) (now rows)) (mapOf (now starts) (now lengths) (now numbers)) (now whole) (now order) (now sets) (now draws)) ⌝ }
+    requires { let day = dayOf counts (now mins) (now maxs) (now optional) (now rows) in
+        let map = mapOf (now starts) (now lengths) (now numbers) in
+        ⌜ Taken (lentOf full day map (now whole) (now order) (now sets) (now draws)) ⌝ }
     requires { ⌜ length (now plan) ≡ counts .choices ⌝ }
-    ensures { λ r. ⌜ leaves (passedTells r) (now (plan .exit)) ≡ leftBy (lentOf full (dayOf counts (now (mins .entry)) (now (maxs .entry)) (now (optional .entry)) (now (rows .entry))) (mapOf (now (starts .entry)) (now (lengths .entry)) (now (numbers .entry))) (now (whole .entry)) (now (order .entry)) (now (sets .entry)) (now (draws .entry))) (now (plan .entry)) (passOf (lentOf full (dayOf counts (now (mins .entry)) (now (maxs .entry)) (now (optional .entry)) (now (rows .entry))) (mapOf (now (starts .entry)) (now (lengths .entry)) (now (numbers .entry))) (now (whole .entry)) (now (order .entry)) (now (sets .entry)) (now (draws .entry))) budget «first_draw») ⌝ }
+    ensures { λ r.
+        let day = dayOf counts (now (mins .entry)) (now (maxs .entry)) (now (optional .entry)) (now (rows .entry)) in
+        let map = mapOf (now (starts .entry)) (now (lengths .entry)) (now (numbers .entry)) in
+        let lent = lentOf full day map (now (whole .entry))
+        (now (order .entry)) (now (sets .entry)) (now (draws .entry)) in
+        let out = passOf lent budget «first_draw» in
+        ⌜ leaves (passedTells r) (now (plan .exit)) ≡ leftBy lent (now (plan .entry)) out ⌝ }
 {
     let mut state = SearchState::new(all_max(order, maxs));
     let mut candidates = no_candidates();
@@ -157,7 +159,9 @@ fn pass_fits(
     order: &[u8],
     plan: &[u8],
 ) -> bool
-    ensures { λ r. ⌜ r ≡ passFits (partOf counts (now (mins .entry)) (now (maxs .entry)) (now (optional .entry)) (now (order .entry))) (now (plan .entry)) ⌝ }
+    ensures { λ r.
+        let lent = partOf counts (now (mins .entry)) (now (maxs .entry)) (now (optional .entry)) (now (order .entry)) in
+        ⌜ r ≡ passFits lent (now (plan .entry)) ⌝ }
 {
     if !shapes_fit(counts, mins, maxs, optional, plan) {
         return false;
@@ -165,7 +169,8 @@ fn pass_fits(
     is_permutation(counts.choices, order)
 }
 
-// A pass over the choices in the given order, for callers that have judged their day: of what a call judges only C, S and lengths are tested here, and the order.
+// A pass over the choices in the given order, for callers that have judged their day: of what a call judges
+// only C, S and lengths are tested here, and the order.
 pub fn run_pass<'a>(
     counts: Counts,
     full: bool,
@@ -184,7 +189,12 @@ pub fn run_pass<'a>(
     draw: usize,
     plan: &mut [u8],
 ) -> Passed
-    ensures { λ r. ⌜ leaves (passedTells r) (now (plan .exit)) ≡ passLeaves (lentOf full (dayOf counts (now (mins .entry)) (now (maxs .entry)) (now (optional .entry)) (now (rows .entry))) (mapOf (now (starts .entry)) (now (lengths .entry)) (now (numbers .entry))) (now (whole .entry)) (now (order .entry)) (now (sets .entry)) (now (draws .entry))) budget draw (now (plan .entry)) ⌝ }
+    ensures { λ r.
+        let day = dayOf counts (now (mins .entry)) (now (maxs .entry)) (now (optional .entry)) (now (rows .entry)) in
+        let map = mapOf (now (starts .entry)) (now (lengths .entry)) (now (numbers .entry)) in
+        let lent = lentOf full day map (now (whole .entry))
+        (now (order .entry)) (now (sets .entry)) (now (draws .entry)) in
+        ⌜ leaves (passedTells r) (now (plan .exit)) ≡ passLeaves lent budget draw (now (plan .entry)) ⌝ }
 {
     if !pass_fits(counts, mins, maxs, optional, order, plan) {
         return Passed::Without { left: budget, draw };

@@ -1,6 +1,6 @@
 -- The places of a record's columns are small numbers.
 use native.Mathlib.Omega.{arith}
-use Rattle.critical_set_analysis.proofs.DaySteps.{product-few}
+use Rattle.sets_analysis.proofs.DaySteps.{product-few}
 use borrow.Author.Needs.{needs}
 use Rattle.replay_critical_sets.proofs.agrees.Statement.{statement}
 use Rattle.replay_critical_sets.proofs.agrees.Tie as tie

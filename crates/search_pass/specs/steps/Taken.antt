@@ -4,13 +4,14 @@ use mathlib.Core.Bool.{true}
 use mathlib.Core.List.{List, []}
 use Prim.Native.Nat.{ℕ, _≤_, _<_}
 use lib.ListN.{length, getD}
-use Rattle.constraint.specs.declared.check.Counts.{Counts}
-use Rattle.scheduling.specs.Day.{dayOf}
-use Rattle.constraint_map.specs.Map.{mapOf}
-use Rattle.choice_order.specs.Order.{isPermutation}
-use Rattle.pass_rules.specs.Pass.{Lent, lentOf}
+use Rattle.day_rows.specs.declared.check.Counts.{Counts}
+use Rattle.plan_check.specs.Day.{dayOf}
+use Rattle.search_map.specs.Map.{mapOf}
+use Rattle.search_order.specs.Order.{isPermutation}
+use Rattle.search_rules.specs.Pass.{Lent, lentOf}
 
--- what a pass is lent is taken: at most 64 choices and 24 slots, an entry for each choice, and an order of the choices
+-- what a pass is lent is taken: at most 64 choices and 24 slots, an entry for each choice, and an order of
+-- the choices
 pub record Taken (lent : Lent) : Type 0 where
   pub few-choices : lent .day .counts .choices ≤ 64
   pub few-slots : lent .day .counts .slots ≤ 24
@@ -19,9 +20,10 @@ pub record Taken (lent : Lent) : Type 0 where
   pub optional-fits : length (lent .day .optional) ≡ lent .day .counts .choices
   pub ordered : isPermutation (lent .day .counts .choices) (lent .order) ≡ true
 
--- what the tests read of it
+-- what the tests read of what a pass is lent
 abbrev pub partOf : Counts → List ℕ → List ℕ → List ℕ → List ℕ → Lent
-partOf counts mins maxs optional order = lentOf true (dayOf counts mins maxs optional []) (mapOf [] [] []) [] order [] []
+partOf counts mins maxs optional order =
+    lentOf true (dayOf counts mins maxs optional []) (mapOf [] [] []) [] order [] []
 
 -- every entry of a list is below a bound
 unfoldable pub Within : List ℕ → ℕ → Type 0

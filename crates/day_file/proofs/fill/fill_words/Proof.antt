@@ -1,5 +1,5 @@
--- The file's entries, and zeros after them.
-use Rattle.pools.proofs.Clearing.{cleared-past}
+-- The file's words, and zeros after them.
+use Rattle.base_pools.proofs.Clearing.{cleared-past}
 use borrow.Author.Needs.{needs}
 use Rattle.day_file.proofs.fill.fill_words.Statement.{statement}
 use Rattle.day_file.proofs.fill.fill_words.Tie as tie

@@ -3,8 +3,8 @@ use mathlib.Core.Path.{_≡_}
 use mathlib.Core.Bool.{true}
 use Prim.Native.Nat.{_-_, _≤_}
 use native.Mathlib.Omega.{arith}
-use Rattle.lists.specs.Below.{allBelow}
-use Rattle.lists.proofs.Through.{all-none, all-done}
+use Rattle.base_lists.specs.Below.{allBelow}
+use Rattle.base_lists.proofs.Through.{all-none, all-done}
 use Rattle.day_file.proofs.JudgeLaws.{rising, rise-fails, rise-more}
 use borrow.Author.Needs.{needs}
 use Rattle.day_file.proofs.judge.levels_in.Statement.{statement}

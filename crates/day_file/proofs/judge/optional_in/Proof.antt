@@ -1,13 +1,13 @@
--- The loop's invariant: every choice before i passes.
+-- The loop's invariant: the optional byte of every choice before i is 0 or 1.
 use mathlib.Core.Path.{_≡_, sym}
 use mathlib.Core.Bool.{true}
 use Prim.Native.Nat.{_+_, _*_, _-_, _≤_}
 use lib.Dec.{leb}
 use lib.ListN.{getD}
 use borrow.Author.Tests.{le-leb, lt-leb}
-use Rattle.lists.specs.Below.{allBelow}
-use Rattle.lists.proofs.Below.{all-more, one-fails}
-use Rattle.lists.proofs.Through.{all-none, all-done}
+use Rattle.base_lists.specs.Below.{allBelow}
+use Rattle.base_lists.proofs.Below.{all-more, one-fails}
+use Rattle.base_lists.proofs.Through.{all-none, all-done}
 use borrow.Author.Needs.{needs}
 use Rattle.day_file.proofs.judge.optional_in.Statement.{statement}
 use Rattle.day_file.proofs.judge.optional_in.Tie as tie

@@ -2,8 +2,8 @@
 use mathlib.Core.Path.{_≡_}
 use mathlib.Core.Bool.{true}
 use Prim.Native.Nat.{_-_, _≤_}
-use Rattle.lists.specs.Below.{allBelow}
-use Rattle.lists.proofs.Through.{all-none, all-done}
+use Rattle.base_lists.specs.Below.{allBelow}
+use Rattle.base_lists.proofs.Through.{all-none, all-done}
 use Rattle.day_file.proofs.JudgeLaws.{under, under-fails, under-more}
 use borrow.Author.Needs.{needs}
 use Rattle.day_file.proofs.judge.preferences_in.Statement.{statement}

@@ -3,15 +3,15 @@ use mathlib.Core.Path.{sym, _∙_, ap}
 use mathlib.Core.List.{List}
 use Prim.Native.Nat.{ℕ}
 use lib.ListN.{length}
-use Rattle.lists.proofs.Flat.{length-list}
-use Rattle.constraint.specs.Check.{rowsJudged}
-use Rattle.constraint.specs.declared.check.Takes.the-variants as takes
+use Rattle.base_lists.proofs.Flat.{length-list}
+use Rattle.day_rows.specs.Check.{rowsJudged}
+use Rattle.day_rows.specs.declared.check.Takes.the-variants as takes
 use borrow.Author.Needs.{needs}
 use Rattle.day_file.proofs.judge.rows_in.Statement.{statement}
 use Rattle.day_file.proofs.judge.rows_in.Tie as tie
 
-no-rows-requires : tie.Need-no-rows-requires
-no-rows-requires c κs = search needs
+given-rows-requires : tie.Need-given-rows-requires
+given-rows-requires c κs = search needs
 
 slice-aggregate-put-rows : tie.Need-slice-aggregate-put-rows
 slice-aggregate-put-rows c = search needs
@@ -37,7 +37,7 @@ pub rows-in-spec : {M : Type 1} → statement M
 rows-in-spec =
     tie.close
     (tie.spec
-    no-rows-requires
+    given-rows-requires
     slice-aggregate-put-rows
     put-rows-requires
     array-share-prefix-rows

@@ -1,6 +1,6 @@
 -- The head's refusal, or the body's answer.
 use mathlib.Core.Path.{ap}
-use Rattle.constraint.specs.Check.{checkedTells}
+use Rattle.day_rows.specs.Check.{checkedTells}
 use Rattle.day_file.proofs.ReadLaws.{file-refused, file-head, file-body, counts-keep, counts-end}
 use borrow.Author.Needs.{needs}
 use Rattle.day_file.proofs.read.judge_file.Statement.{statement}

@@ -1,6 +1,6 @@
 -- Each return has the tests before it held and its own failed.
 use borrow.Author.Tests.{eq-eqb, ne-eqb}
-use Rattle.day_file.specs.Day.{lengthsFull}
+use Rattle.day_file.specs.FileDay.{lengthsFull}
 use Rattle.day_file.proofs.read.pools_full.Statement.{statement}
 use Rattle.day_file.proofs.read.pools_full.Tie as tie
 

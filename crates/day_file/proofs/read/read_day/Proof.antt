@@ -1,7 +1,7 @@
 -- The pools first, then the file; then its counts and its lists.
 use borrow.Author.Tests.{not-true, not-false}
-use Rattle.constraint.specs.Check.{checkedTells}
-use Rattle.day_file.specs.Day.{parts}
+use Rattle.day_rows.specs.Check.{checkedTells}
+use Rattle.day_file.specs.FileDay.{parts}
 use Rattle.day_file.proofs.ReadLaws.{read-short, read-refused, read-head, read-good, counts-keep, counts-end}
 use mathlib.Core.Path.{sym, _∙_, ap}
 use borrow.Author.Needs.{needs}

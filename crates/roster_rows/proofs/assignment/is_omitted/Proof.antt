@@ -1,8 +1,8 @@
--- Omitted by the byte of 255.
+-- A choice is omitted by the byte of 255.
 use mathlib.Core.Path.{_≡_, ap}
 use Prim.Native.Nat.{ℕ}
 use lib.Dec.{eqb}
-use Rattle.scheduling.specs.Plan.{omitted}
+use Rattle.plan_check.specs.Plan.{omitted}
 use borrow.Author.Needs.{needs}
 use Rattle.roster_rows.proofs.assignment.is_omitted.Statement.{statement}
 use Rattle.roster_rows.proofs.assignment.is_omitted.Tie as tie

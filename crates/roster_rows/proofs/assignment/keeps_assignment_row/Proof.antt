@@ -1,4 +1,4 @@
--- Each kind by its sentence.
+-- Each kind of row by its sentence; past them all, no roster keeps the row.
 use mathlib.Core.Path.{_≡_, sym, _∙_, ap}
 use mathlib.Core.Bool.{not}
 use Prim.Native.Nat.{ℕ}

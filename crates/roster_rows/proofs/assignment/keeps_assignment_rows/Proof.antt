@@ -1,4 +1,4 @@
--- The shape, one test after the other, and then the rows.
+-- The roster's shape, one test after the other, and then the rows.
 use mathlib.Core.Path.{_≡_, sym, _∙_}
 use native.Mathlib.Omega.{arith}
 use Rattle.roster_rows.proofs.CellLaws.{few-cells}

@@ -1,11 +1,11 @@
--- The loop's invariant: what is left of the list decides.
+-- The loop's invariant: the rows that are left decide.
 use borrow.Author.Needs.{needs}
 use mathlib.Core.Path.{_≡_, sym, _∙_}
 use Prim.Native.Nat.{ℕ, _≤_, _-_}
 use lib.ListN.{length}
 use borrow.Author.Tests.{not-true, not-false}
-use Rattle.constraint.specs.Row.{rowOf}
-use Rattle.scheduling.proofs.CheckLaws.{RestDecides, rest-start, rest-next, rest-fails, rest-none}
+use Rattle.day_rows.specs.Row.{rowOf}
+use Rattle.plan_check.proofs.CheckLaws.{RestDecides, rest-start, rest-next, rest-fails, rest-none}
 use Rattle.roster_rows.specs.Rows.{keepsAssignmentRow, keepsAssignmentRows}
 use Rattle.roster_rows.proofs.assignment.keeps_each_row.Statement.{statement}
 use Rattle.roster_rows.proofs.assignment.keeps_each_row.Tie as tie

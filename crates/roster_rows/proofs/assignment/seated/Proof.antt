@@ -1,7 +1,7 @@
 -- The cells that are searched are the chooser's.
 use mathlib.Core.Path.{_≡_, sym, _∙_, ap}
 use lib.Dec.{eqb}
-use Rattle.lists.specs.Keep.{anyOf}
+use Rattle.base_lists.specs.Keep.{anyOf}
 use Rattle.roster_rows.specs.Rows.{isThere}
 use borrow.Author.Needs.{needs}
 use Rattle.roster_rows.proofs.assignment.seated.Statement.{statement}

@@ -6,8 +6,8 @@ use native.Mathlib.Omega.{arith}
 use borrow.Author.Tests.{eq-eqb, ne-eqb}
 use lib.Dec.{eqb}
 use lib.ListN.{length, drop}
-use Rattle.lists.specs.Keep.{anyOf}
-use Rattle.lists.proofs.Keep.{any-here, any-on, any-none}
+use Rattle.base_lists.specs.Keep.{anyOf}
+use Rattle.base_lists.proofs.Keep.{any-here, any-on, any-none}
 use Rattle.roster_rows.proofs.cells.is_there.Statement.{statement}
 use Rattle.roster_rows.proofs.cells.is_there.Tie as tie
 

@@ -1,4 +1,4 @@
--- 1 or 0 by the test.
+-- 1 or 0, as the test of the cell says.
 use borrow.Author.Needs.{needs}
 use mathlib.Core.Path.{_≡_, sym, _∙_}
 use native.Mathlib.Omega.{arith}

@@ -16,12 +16,12 @@ abbrev μ-loop : tie.MeasureT-loop
 μ-loop cells times₀ s₀ times s =
     length cells - s
 
-no-times-requires : tie.Need-no-times-requires Inv-loop μ-loop
-no-times-requires c κs = search needs
+none-yet-requires : tie.Need-none-yet-requires Inv-loop μ-loop
+none-yet-requires c κs = search needs
 
 loop-holds : tie.Need-loop-holds Inv-loop μ-loop
 loop-holds c =
-    tallying-start _ _ (c .no-times .ensures)
+    tallying-start _ _ (c .none-yet .ensures)
 
 shared-slice-read-wide : tie.Need-shared-slice-read-wide Inv-loop μ-loop
 shared-slice-read-wide c = search needs
@@ -59,7 +59,7 @@ tally-spec =
     (tie.spec
     Inv-loop
     μ-loop
-    no-times-requires
+    none-yet-requires
     loop-holds
     shared-slice-read-wide
     wide-requires

@@ -4,7 +4,7 @@ use mathlib.Core.Path.{_≡_, refl, sym, _∙_}
 use Prim.Native.Nat.{_+_, _≤_, _-_}
 use native.Mathlib.Omega.{arith}
 use lib.ListN.{length, drop}
-use Rattle.lists.specs.Group.{timesIn}
+use Rattle.base_lists.specs.Group.{timesIn}
 use Rattle.roster_rows.proofs.CellLaws.{times-step, times-whole}
 use Rattle.roster_rows.proofs.cells.times_in.Statement.{statement}
 use Rattle.roster_rows.proofs.cells.times_in.Tie as tie

@@ -13,55 +13,44 @@ abbrev μ-loop : tie.MeasureT-loop
 μ-loop order maxs sum₀ i₀ sum i =
     length order - i
 
--- src/pass.rt:36:5
 loop-holds : tie.Need-loop-holds Inv-loop μ-loop
 loop-holds c =
     adding-start _ _
 
--- src/pass.rt:37:38
 shared-slice-read-wide : tie.Need-shared-slice-read-wide Inv-loop μ-loop
 shared-slice-read-wide c =
     c .before .loop-test .taken
 
--- src/pass.rt:37:33
 wide-requires : tie.Need-wide-requires Inv-loop μ-loop
 wide-requires c κs = tt
 
--- src/pass.rt:37:28
 mul-wide-amount : tie.Need-mul-wide-amount Inv-loop μ-loop
 mul-wide-amount c =
-    omega (arith, c .wide .ensures, c .before .shared-slice-known3 .given (c .before .before .before .loop .i))
+    omega (arith, c .wide .ensures .0, c .before .shared-slice-known3 .given (c .before .before .before .loop .i))
 
--- src/pass.rt:37:28
 shared-slice-read-wide-amount : tie.Need-shared-slice-read-wide-amount Inv-loop μ-loop
 shared-slice-read-wide-amount c =
-    choice-there (c .before .before .before .before .before .before .before .args .order .now) (c .before .before .before .before .before .before .before .args .maxs .now) _ _ (c .before .before .before .before .before .before .before .pre .0) (c .before .before .before .loop-test .taken) (c .before .wide .ensures)
+    choice-there (c .before .before .before .before .before .before .before .args .order .now) (c .before .before .before .before .before .before .before .args .maxs .now) _ _ (c .before .before .before .before .before .before .before .pre .0) (c .before .before .before .loop-test .taken) (c .before .wide .ensures .0)
 
--- src/pass.rt:37:16
 wide-amount-requires : tie.Need-wide-amount-requires Inv-loop μ-loop
 wide-amount-requires c κs = tt
 
--- src/pass.rt:37:9
 add-sum : tie.Need-add-sum Inv-loop μ-loop
 add-sum c =
     omega (arith, c .before .before .before .before .before .loop .inv .fits, c .before .before .before .before .before .loop .inv .within, c .wide-amount .ensures .1, c .before .before .before .before .before .before .before .before .pre .1)
 
--- src/pass.rt:38:9
 add-i : tie.Need-add-i Inv-loop μ-loop
 add-i c =
     omega (arith, c .before .before .before .before .before .loop .inv .within, c .before .before .before .before .before .before .before .before .pre .1)
 
--- src/pass.rt:36:5
 loop-less : tie.Need-loop-less Inv-loop μ-loop
 loop-less c =
     omega (arith, c .before .before .before .before .loop-test .taken)
 
--- src/pass.rt:36:5
 loop-again : tie.Need-loop-again Inv-loop μ-loop
 loop-again c =
-    adding-more _ _ _ _ _ _ (c .before .before .before .before .before .loop .inv) (c .before .before .before .before .loop-test .taken) (c .before .before .wide .ensures) (c .wide-amount .ensures .0) (c .wide-amount .ensures .1)
+    adding-more _ _ _ _ _ _ (c .before .before .before .before .before .loop .inv) (c .before .before .before .before .loop-test .taken) (c .before .before .wide .ensures .0) (c .wide-amount .ensures .0) (c .wide-amount .ensures .1)
 
--- src/pass.rt:30:1
 returns : tie.Need-returns Inv-loop μ-loop
 returns c =
     adding-end (c .before .before .before .before .args .order .now) (c .before .before .before .before .args .maxs .now) _ _ (c .before .loop .inv) (c .loop-test .left)

@@ -3,7 +3,7 @@ use mathlib.Core.Path.{sym, _∙_}
 use mathlib.Core.Bool.{true}
 use mathlib.Core.List.{[]}
 use borrow.Author.Tests.{not-true, not-false}
-use Rattle.constraint_map.specs.Map.{mapOf}
+use Rattle.search_map.specs.Map.{mapOf}
 use Rattle.search_pass.proofs.PlanLaws.{pass-not-taken, pass-walked, plan-fits, walk-taken}
 use borrow.Author.Needs.{needs}
 use Rattle.search_pass.proofs.pass.run_pass.Statement.{statement}

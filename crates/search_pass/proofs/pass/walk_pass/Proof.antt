@@ -1,10 +1,10 @@
 -- The loop's invariant: the walk from where the code stands is the whole pass.
 use mathlib.Core.Path.{sym, _∙_, ap}
 use native.Mathlib.Omega.{arith}
-use Rattle.scheduling.specs.Day.{dayOf}
-use Rattle.constraint_map.specs.Map.{mapOf}
-use Rattle.pass_rules.specs.Pass.{lentOf, passOf}
-use Rattle.search_sight.specs.steps.Seen.{sightTells}
+use Rattle.plan_check.specs.Day.{dayOf}
+use Rattle.search_map.specs.Map.{mapOf}
+use Rattle.search_rules.specs.Pass.{lentOf, passOf}
+use Rattle.search_turn.specs.steps.Seen.{sightTells}
 use Rattle.search_pass.specs.steps.Taken.{Taken}
 use Rattle.search_pass.proofs.SightLaws.{plan-written}
 use Rattle.search_pass.proofs.PlanLaws.{order-within, order-few, remains-all}

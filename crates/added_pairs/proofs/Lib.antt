@@ -1,3 +1,0 @@
-pub mod Pairing
-pub mod Bounds
-pub mod Limits

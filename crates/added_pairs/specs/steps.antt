@@ -1,3 +1,0 @@
--- The code's own steps, which contracts of functions below the reduction need: nothing here is a rule of 01.
-pub mod Marks
-pub mod Limits

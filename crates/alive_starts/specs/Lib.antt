@@ -1,3 +1,0 @@
-pub mod Alive
-pub mod Run
-pub mod Page

@@ -1,5 +1,0 @@
-pub mod Crossing
-pub mod Layouts
-pub mod Codes
-pub mod Counts
-pub mod steps

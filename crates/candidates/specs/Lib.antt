@@ -1,4 +1,0 @@
-pub mod Loads
-pub mod Tests
-pub mod Bucket
-pub mod steps

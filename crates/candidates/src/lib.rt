@@ -1,5 +1,0 @@
-// The candidates of a new depth.
-pub mod bucket;
-mod critical;
-mod loads;
-mod stuck;

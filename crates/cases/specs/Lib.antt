@@ -1,4 +1,0 @@
-pub mod Alike
-pub mod Filled
-pub mod Numbers
-pub mod Tallies

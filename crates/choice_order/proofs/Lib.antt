@@ -1,5 +1,0 @@
--- The laws of the orders, a law for each way through the code, and that no two outcomes fit.
-pub mod Times
-pub mod OrderLaws
-pub mod OrderSteps
-pub mod Settled

@@ -1,6 +1,0 @@
-pub mod Check
-pub mod Op
-pub mod Refusal
-pub mod Row
-pub mod Told
-pub mod steps

@@ -1,3 +1,0 @@
-pub mod Map
-pub mod Calls
-pub mod steps

@@ -1,2 +1,0 @@
-pub mod CountRule
-pub mod steps

@@ -1,6 +1,0 @@
-pub mod Day
-pub mod Kept
-pub mod Bound
-pub mod LevelList
-pub mod Calls
-pub mod steps

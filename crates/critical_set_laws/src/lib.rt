@@ -1,1 +1,0 @@
-// No code: the laws of kept sets, simplifying, the bound and levels' lists, in proofs/.

@@ -1,5 +1,0 @@
--- The laws of a level's list: what its functions' proofs cite, a law for each way through the code.
-pub mod CallSteps
-pub mod ListSteps
-pub mod Settled
-pub mod Examples

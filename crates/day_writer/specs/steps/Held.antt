@@ -1,7 +1,0 @@
--- What putting a row's bytes asks of it.
-use Prim.Native.Nat.{ℕ, _<_}
-use Rattle.constraint.specs.Row.{rowOf}
-
--- kind and left fit their byte
-abbrev pub BytesHold : ℕ → Type 0
-BytesHold number = (rowOf number .kind < 256) × (rowOf number .left < 256)

@@ -1,3 +1,0 @@
-pub mod ExactLaws
-pub mod LeavesLaws
-pub mod LastLaws

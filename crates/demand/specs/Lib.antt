@@ -1,4 +1,0 @@
-pub mod Search
-pub mod Calls
-pub mod Demand
-pub mod Answer

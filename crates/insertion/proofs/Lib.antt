@@ -1,3 +1,0 @@
--- The laws of insertion.
-pub mod InsertLaws
-pub mod Settled

@@ -1,4 +1,0 @@
--- The laws of the loop over levels, a law for each way through the code.
-pub mod LevelSteps
-pub mod StepSteps
-pub mod Settled

@@ -1,3 +1,0 @@
--- Laws of the least weights of so many choices.
-pub mod LightestLaws
-pub mod FillLaws

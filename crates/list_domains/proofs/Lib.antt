@@ -1,0 +1,3 @@
+pub mod DomainLaws
+pub mod LowestLaws
+pub mod PlaceLaws

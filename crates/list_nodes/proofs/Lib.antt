@@ -1,0 +1,21 @@
+-- The laws of the list, of its pages and nodes, and of the list walked by any eyes.
+pub mod AnyEyes
+pub mod CountLaws
+pub mod EventLaws
+pub mod Falls
+pub mod JudgeLaws
+pub mod ListLaws
+pub mod Members
+pub mod NodeLaws
+pub mod OnePage
+pub mod Order
+pub mod Outcomes
+pub mod PageHolds
+pub mod PageLaws
+pub mod Pages
+pub mod PlaceLaws
+pub mod RunLaws
+pub mod SameEvents
+pub mod StartLaws
+pub mod Visits
+pub mod WholeLaws

@@ -1,0 +1,4 @@
+pub mod Judge
+pub mod Page
+pub mod Placements
+pub mod steps

@@ -1,0 +1,6 @@
+-- The code's own steps, which contracts of private functions need: nothing here is a rule of 01.
+pub mod Alive
+pub mod Nodes
+pub mod Run
+pub mod Runs
+pub mod Walk

@@ -1,0 +1,5 @@
+-- The code's own steps, which contracts of private functions need: nothing here is a rule of 01.
+pub mod Filling
+pub mod Lightest
+pub mod Tables
+pub mod Weights

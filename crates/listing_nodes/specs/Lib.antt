@@ -1,4 +1,0 @@
-pub mod Placements
-pub mod Judge
-pub mod Nodes
-pub mod steps

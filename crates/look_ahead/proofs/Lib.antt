@@ -1,3 +1,0 @@
--- The laws of the look ahead.
-pub mod StepLaws
-pub mod LookLaws

@@ -1,2 +1,0 @@
-pub mod Turn
-pub mod Free

@@ -1,3 +1,0 @@
--- Laws of the open places.
-pub mod OpenLaws
-pub mod SlotLaws

@@ -1,3 +1,0 @@
-// The places that the next choice may take.
-
-pub mod open;

@@ -1,2 +1,0 @@
-// The places that a choice may still take: each slot by its number, omission by the number after the last slot.
-pub mod places;

@@ -1,3 +1,0 @@
--- The law of clearing, and that no two outcomes fit.
-pub mod Clearing
-pub mod Outcomes

@@ -1,0 +1,4 @@
+pub mod Copies
+pub mod Groups
+pub mod Pairs
+pub mod steps

@@ -1,3 +1,0 @@
-pub mod ApartLaws
-pub mod JudgeLaws
-pub mod Settled

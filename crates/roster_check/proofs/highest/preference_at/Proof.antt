@@ -1,0 +1,22 @@
+-- Past the end of the list stands 0.
+use mathlib.Core.Path.{_≡_, sym}
+use lib.ListN.{List·getD-eq-default}
+use borrow.Author.Needs.{needs}
+use Rattle.roster_check.proofs.highest.preference_at.Statement.{statement}
+use Rattle.roster_check.proofs.highest.preference_at.Tie as tie
+
+returns : tie.Need-returns
+returns c =
+    sym (List·getD-eq-default (c .before .args .preferences .now) 0 (c .if1 .taken))
+
+mul-result : tie.Need-mul-result
+mul-result c = search needs
+
+shared-slice-read-result : tie.Need-shared-slice-read-result
+shared-slice-read-result c = search needs
+
+returns-2 : tie.Need-returns-2
+returns-2 c = search needs
+
+pub preference-at-spec : {M : Type 1} → statement M
+preference-at-spec = tie.close (tie.spec returns mul-result shared-slice-read-result returns-2)

@@ -1,0 +1,5 @@
+pub mod Check
+pub mod Passes
+pub mod Roster
+pub mod Sheet
+pub mod steps

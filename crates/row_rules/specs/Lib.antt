@@ -1,3 +1,0 @@
-pub mod RowRules
-pub mod RowsRule
-pub mod steps

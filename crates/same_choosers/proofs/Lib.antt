@@ -1,4 +1,0 @@
-pub mod Joining
-pub mod Copying
-pub mod Bounds
-pub mod Fitting

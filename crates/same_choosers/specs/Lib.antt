@@ -1,3 +1,0 @@
-pub mod Groups
-pub mod Copies
-pub mod steps

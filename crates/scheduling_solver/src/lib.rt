@@ -1,3 +1,0 @@
-// The search as a call: its refusals, its sets, and its passes from the start up.
-mod passes;
-pub mod search;

@@ -1,3 +1,0 @@
--- What the search's answers say.
-pub mod PassLaws
-pub mod SearchLaws

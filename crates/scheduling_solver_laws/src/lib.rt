@@ -1,1 +1,0 @@
-// No code: what the search's answers say, in proofs/.

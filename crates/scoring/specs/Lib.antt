@@ -1,5 +1,0 @@
-pub mod Sheet
-pub mod Roster
-pub mod Passes
-pub mod Check
-pub mod steps

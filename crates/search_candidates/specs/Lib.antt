@@ -1,0 +1,5 @@
+pub mod Allow
+pub mod Bucket
+pub mod Loads
+pub mod Tests
+pub mod steps

@@ -1,3 +1,0 @@
-pub mod Given
-pub mod Judged
-pub mod steps

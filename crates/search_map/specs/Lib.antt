@@ -1,0 +1,3 @@
+pub mod Calls
+pub mod Map
+pub mod steps

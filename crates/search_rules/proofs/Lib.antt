@@ -1,0 +1,26 @@
+-- The laws of the walk of one pass, of passes one after the other, and of what one pass can still meet.
+pub mod WalkSteps
+pub mod Induction
+pub mod Sound
+pub mod Complete
+pub mod Nodes
+pub mod Spent
+pub mod Decides
+pub mod ClosingLaws
+pub mod TwoSights
+pub mod Reached
+pub mod SameWalk
+pub mod WalkLaws
+pub mod PassesAnswers
+pub mod PassesLaws
+pub mod PassesInduction
+pub mod Within
+pub mod CallSettles
+pub mod Along
+pub mod SumsAlong
+pub mod RowsAlong
+pub mod SetsAlong
+pub mod InBucket
+pub mod PassSettles
+pub mod Arranging
+pub mod Examples

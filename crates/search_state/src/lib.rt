@@ -1,4 +1,0 @@
-// What is decided along a pass, and its turns.
-mod amount;
-pub mod state;
-pub mod turn;

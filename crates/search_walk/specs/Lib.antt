@@ -1,3 +1,0 @@
-pub mod Walk
-pub mod Closing
-pub mod Turns

@@ -1,0 +1,23 @@
+-- The laws of the analysis, of kept sets, simplifying, the bound and levels' lists.
+pub mod AnyOrder
+pub mod BoundSteps
+pub mod CallSteps
+pub mod Covering
+pub mod DaySteps
+pub mod Example
+pub mod KeptSteps
+pub mod LastLevel
+pub mod LevelLists
+pub mod LevelOutcomes
+pub mod Members
+pub mod Origin
+pub mod Outcomes
+pub mod Pairwise
+pub mod Picked
+pub mod PoolSteps
+pub mod PoolsBack
+pub mod SameSets
+pub mod SetOrder
+pub mod SimplifiedSteps
+pub mod Simplifying
+pub mod Uncovered

@@ -1,6 +1,0 @@
--- The laws of the rules: a plan that keeps the sums, or the row, keeps its places; and each way through the code.
-pub mod StandLaws
-pub mod SlotLaws
-pub mod LimitLaws
-pub mod StepLaws
-pub mod SumLaws

@@ -1,2 +1,0 @@
-pub mod SlotRules
-pub mod steps

@@ -1,4 +1,0 @@
-pub mod Figures
-pub mod Rule
-pub mod Enough
-pub mod steps

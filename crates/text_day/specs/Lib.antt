@@ -1,0 +1,3 @@
+pub mod Made
+pub mod Prepared
+pub mod steps

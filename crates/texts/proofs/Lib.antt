@@ -1,5 +1,0 @@
-pub mod NumberLaws
-pub mod DecimalLaws
-pub mod PutLaws
-pub mod LineLaws
-pub mod Settled

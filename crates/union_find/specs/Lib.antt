@@ -1,4 +1,0 @@
-pub mod Answers
-pub mod State
-pub mod Groups
-pub mod steps

@@ -1,4 +1,0 @@
--- Laws of the weights and of the tables.
-pub mod WeightLaws
-pub mod TableLaws
-pub mod StartLaws

@@ -1,1 +1,0 @@
-// No code: document 01's worked examples K1 to K8, computed by the checker from the definitions, in one table under one claim.
