@@ -1,4 +1,4 @@
-"""A day as an answer set program, and what gringo and clasp say of it: the peer of the listing.
+"""A day as an answer set program, and what gringo and clasp say of it; bench/clasp_alone checks it.
 
 The program has an atom `at(C,P)` for choice C at place P, 255 for omitted, and nothing else that can differ, so
 its answer sets are the day's plans, each once. It is told from the plan check of 01, with no rule of the listing's

@@ -3,7 +3,6 @@
 The records are as the oracle's README.md gives them, without answers.
 """
 
-import struct
 import sys
 from functools import partial
 from pathlib import Path
@@ -12,12 +11,13 @@ ROOT = Path(__file__).resolve().parent.parent
 ORACLE = ROOT / "oracle"
 EXAMPLES = ROOT / "examples"
 
-sys.path.insert(0, str(ORACLE))
+sys.path[:0] = [str(ORACLE), str(ROOT / "scripts")]
 sys.dont_write_bytecode = True
+import day_bytes  # noqa: E402
 import day_file  # noqa: E402
 import scope  # noqa: E402
 from cases import critical_sets, listing, plan_check, reduction, roster, search  # noqa: E402
-from cases.common import Draws, parts, random_row, record, row, u16s  # noqa: E402
+from cases.common import Draws, parts, random_row, record, row  # noqa: E402
 
 SEED = 2_001
 PLANS = 200
@@ -134,17 +134,14 @@ def example(name):
 
 
 def full_file():
+    """A day with every count at its limit."""
     draws = Draws(SEED + 3)
-    counts = (64, 24, 200)
+    choices, slots, choosers = 64, 24, 200
     levels = [100 * level for level in range(64)]
-    body = struct.pack(">BBBBBH", 1, *counts, 64, 128)
-    for _ in range(64):
-        body += struct.pack(">HHB", draws.below(9), draws.between(9, 40), draws.below(2))
-    body += u16s(levels) + u16s([draws.pick(levels) for _ in range(200 * 64)])
-    rows = reduction.random_rows(draws, range(1, 16), 128, counts)
-    for kind, left, right, extra in map(parts, rows):
-        body += struct.pack(">BBHh", kind, left, right, extra)
-    file = struct.pack(">I", len(body)) + body
+    stations = [(draws.below(9), draws.between(9, 40), draws.below(2)) for _ in range(choices)]
+    preferences = [draws.pick(levels) for _ in range(choosers * choices)]
+    rows = reduction.random_rows(draws, range(1, 16), 128, (choices, slots, choosers))
+    file = day_bytes.file_of(slots, choosers, stations, levels, preferences, list(map(parts, rows)))
     assert len(file) == 26_827
     return file
 

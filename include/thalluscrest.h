@@ -10,11 +10,11 @@
  * be one. A search tests what it places by the preferences up to a limit (its critical sets), and where it finds no
  * plan it raises the limit level by level; at the last level that test leaves every feasible plan.
  *
- * Build (in the project's folder, with Rattle's `rt`; it makes target/staticlib/libexports.a) and link (the archive
- * is all it takes):
+ * Build (in the project's folder, with Rattle's `rt`; it makes target/staticlib/libthalluscrest.a) and link
+ * (the archive is all it takes):
  *
- *     rt staticlib exports
- *     cc -std=c11 -Iinclude program.c target/staticlib/libexports.a -o program
+ *     rt staticlib thalluscrest
+ *     cc -std=c11 -Iinclude program.c target/staticlib/libthalluscrest.a -o program
  *
  * The archive is compiled for x86-64 Linux, on whatever machine it is made, and links into x86-64 programs only. On
  * an Arm machine compile with x86_64-linux-gnu-gcc (Debian's gcc-x86-64-linux-gnu) in the place of cc, and run with
@@ -43,7 +43,7 @@
  *
  * Nothing else. No call allocates, keeps a pointer, or reads or writes anything but its buffers and its stack;
  * there is no data of its own that changes. So calls may run in any number of threads at once, each with its own
- * buffers. Stack: list_page takes about 385 KB, since its tables stand there; of the other calls the most that was
+ * buffers. Stack: list_page takes about 383 KB, since its tables stand there; of the other calls the most that was
  * measured is 50 KB, of plan_day.
  */
 #ifndef THALLUSCREST_H
@@ -390,7 +390,7 @@ enum thalluscrest_paged {
  * choices. What is lent and refused is as with list_plans. Room 0 asks for the total alone: the list is walked to its
  * end. `budget` is how many starts may be looked at, and one that list_plans has enough of is enough here. After
  * THALLUSCREST_OUT_OF_TURNS the plans that were met before stand on the page, each as it would in the whole list;
- * there may be more, on the page and after it. Takes about 385 KB of stack. */
+ * there may be more, on the page and after it. Takes about 383 KB of stack. */
 enum {
     THALLUSCREST_PAGED_OUTCOME = 0, /* enum thalluscrest_paged, or THALLUSCREST_OUT_OF_TURNS */
     THALLUSCREST_PAGED_WRITTEN = 1, /* how many plans stand on the page */

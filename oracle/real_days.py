@@ -26,14 +26,14 @@ NAME.plans  (--small) the total by brute force, then a line a plan of the first 
             dictionary order, 255 for omitted
 """
 
-import struct
 import sys
 from pathlib import Path
 
 HERE = Path(__file__).resolve().parent
 
-sys.path.insert(0, str(HERE))
+sys.path[:0] = [str(HERE), str(HERE.parent / "scripts")]
 sys.dont_write_bytecode = True
+import day_bytes  # noqa: E402
 import listing  # noqa: E402
 import scope  # noqa: E402
 from cases.common import Draws, parts, possible_kinds, random_row, row  # noqa: E402
@@ -58,15 +58,10 @@ class Made:
 
 
 def day_file(draws, made):
-    """The day packed as 01 says."""
+    """The day's file, with levels and preferences drawn."""
     levels = draws.pick([[0, 1, 2], [0, 2, 5], [0, 1, 3, 7], [0, 10]])
-    rest = struct.pack(">BBBBBH", 1, len(made.stations), made.slots, made.choosers, len(levels), len(made.rows))
-    rest += b"".join(struct.pack(">HHB", *station) for station in made.stations)
-    rest += struct.pack(f">{len(levels)}H", *levels)
-    cells = made.choosers * len(made.stations)
-    rest += struct.pack(f">{cells}H", *(draws.pick(levels) for _ in range(cells)))
-    rest += b"".join(struct.pack(">BBHh", *one) for one in made.rows)
-    return struct.pack(">I", len(rest)) + rest
+    preferences = [draws.pick(levels) for _ in range(made.choosers * len(made.stations))]
+    return day_bytes.file_of(made.slots, made.choosers, made.stations, levels, preferences, made.rows)
 
 
 def listed_day(content):

@@ -3,25 +3,16 @@
 import itertools
 import struct
 
-from cases.common import parts, possible_kinds, random_row, u16s
+from cases.common import parts, possible_kinds, random_row
+from day_bytes import file_of, with_length
 
 SEED = 1_008
 FILE = "crates/replay_day_file/data/cases"
 LARGEST = 26_827
 
 
-def file_of(slots, per_choice, levels, preferences, rows):
-    """A file; rows by their columns."""
-    choices = len(per_choice)
-    choosers = len(preferences) // choices if choices else preferences
-    body = struct.pack(">BBBBBH", 1, choices, slots, choosers, len(levels), len(rows))
-    body += b"".join(struct.pack(">HHB", *c) for c in per_choice) + u16s(levels)
-    body += u16s(preferences) if choices else b""
-    body += b"".join(struct.pack(">BBHh", *r) for r in rows)
-    return struct.pack(">I", len(body)) + body
-
-
 def body(file):
+    """The input of a case: the file's length, which its own first word may belie, and the file."""
     return struct.pack(">I", len(file)) + file
 
 
@@ -35,10 +26,11 @@ def random_day(draws, choices, slots, choosers, levels, rows):
     per_choice = [(draws.pick([0, 1, draws.below(40), 65535]), draws.pick([0, draws.below(60), 65535]), draws.below(2)) for _ in range(choices)]
     steps = [draws.between(1, 1000) for _ in range(levels)]
     rising = [sum(steps[:i + 1]) - 1 for i in range(levels)]
-    preferences = [draws.pick([0, rising[-1], draws.between(0, rising[-1])]) for _ in range(choices * choosers)] if choices else choosers
+    wishes = range(choices * choosers)
+    preferences = [draws.pick([0, rising[-1], draws.between(0, rising[-1])]) for _ in wishes]
     kinds = possible_kinds(range(1, 16), choices, slots, choosers)
     given = [parts(random_row(draws, draws.pick(kinds), choices, slots, choosers)) for _ in range(rows)] if kinds else []
-    return file_of(slots, per_choice, rising, preferences, given)
+    return file_of(slots, choosers, per_choice, rising, preferences, given)
 
 
 def sample():
@@ -52,10 +44,6 @@ def at_limits(draws):
     for counts in [(0, 0, 0, 1, 0), (64, 0, 0, 1, 0), (0, 24, 0, 1, 0), (0, 0, 200, 1, 0), (0, 0, 0, 64, 0), (1, 1, 1, 1, 128),
                    (64, 24, 3, 64, 128), (2, 24, 200, 2, 16), (1, 1, 200, 1, 1)]:
         yield random_day(draws, *counts)
-
-
-def with_length(rest):
-    return struct.pack(">I", len(rest)) + rest
 
 
 def damages(good):
@@ -106,9 +94,8 @@ def counts_over(draws):
         counts = [1, 1, 1, 1]
         counts[at - 5] = value
         choices, slots, choosers, levels = counts
-        rest = struct.pack(">BBBBBH", 1, *counts, 0)
-        yield with_length(rest + bytes(5 * choices) + u16s(range(levels)) + bytes(2 * choices * choosers))
-    yield with_length(struct.pack(">BBBBBH", 1, 1, 1, 1, 1, 129) + bytes(5 + 2 + 2) + struct.pack(">BBHh", 1, 0, 0, 0) * 129)
+        yield file_of(slots, choosers, [(0, 0, 0)] * choices, range(levels), [0] * (choices * choosers), [])
+    yield file_of(1, 1, [(0, 0, 0)], [0], [0], [(1, 0, 0, 0)] * 129)
 
 
 def each_column(draws):
@@ -117,7 +104,7 @@ def each_column(draws):
         for left, right, extra in [(0, 0, 0), (1, 0, 0), (2, 0, 0), (3, 0, 0), (4, 0, 0), (0, 1, 0), (0, 2, 0), (0, 3, 0), (0, 4, 0), (0, 65535, 0),
                                    (255, 0, 0), (0, 0, 1), (0, 0, 4), (0, 0, -3), (0, 0, -4), (0, 0, 32767), (0, 0, -32767), (0, 0, -32768)]:
             rows = [(1, 0, 0, 0), (kind, left, right, extra)]
-            yield file_of(3, [(0, 9, 0), (1, 9, 1)], [0, 5], [0] * 8, rows)
+            yield file_of(3, 4, [(0, 9, 0), (1, 9, 1)], [0, 5], [0] * 8, rows)
 
 
 def random_case(draws):

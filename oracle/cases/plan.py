@@ -3,8 +3,8 @@
 import itertools
 import struct
 
+import day_bytes
 from cases import critical_sets, day_file, plans
-from cases.common import u16s
 from cases.preferences import random_levels, random_preferences
 
 SEED = 1_012
@@ -22,17 +22,15 @@ def input_length(case):
 
 def file_of(slots, per_choice, levels, preferences, rows=()):
     """A file; preferences a list a chooser."""
-    choosers = len(preferences)
     flat = [wish for line in preferences for wish in line]
-    return day_file.file_of(slots, per_choice, levels, flat if per_choice else choosers, list(rows))
+    return day_bytes.file_of(slots, len(preferences), per_choice, levels, flat, rows)
 
 
 def counts_of_choices():
     """K11: 64 choices are taken, 65 give 1; each with a body that fits."""
     yield plans.file_of(1, 0, [(0, 0, 0)] * 64)
     yield plans.file_of(1, 1, [(0, 1, 1)] * 64)
-    rest = struct.pack(">BBBBBH", 1, 65, 1, 0, 1, 0)
-    yield day_file.with_length(rest + bytes(5 * 65) + u16s([0]))
+    yield plans.file_of(1, 0, [(0, 0, 0)] * 65)
 
 
 def small_days():

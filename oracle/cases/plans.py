@@ -3,6 +3,7 @@
 import itertools
 import struct
 
+import day_bytes
 import listing
 import plans
 import scope
@@ -26,8 +27,7 @@ def input_length(case):
 
 def file_of(slots, choosers, per_choice, rows=(), levels=(0,)):
     """A file in which every preference is the lowest one."""
-    preferences = [0] * (len(per_choice) * choosers) if per_choice else choosers
-    return day_file.file_of(slots, per_choice, list(levels), preferences, [tuple(one) for one in rows])
+    return day_bytes.file_of(slots, choosers, per_choice, levels, [0] * (choosers * len(per_choice)), rows)
 
 
 def size_of(file):
@@ -142,7 +142,7 @@ def largest():
     good = file_of(24, 200, [(65535, 65535, 0)] * 64, rows * 16, range(64))
     assert len(good) == day_file.LARGEST
     yield body(good)
-    yield body(day_file.with_length(b"\2" + good[5:] + b"\0"))
+    yield body(day_bytes.with_length(b"\2" + good[5:] + b"\0"))
 
 
 def long_texts():

@@ -9,7 +9,7 @@ from cases.common import row
 from cases.preferences import random_levels, random_preferences
 
 SEED = 1_011
-FILE = "crates/replay_search_refusals/data/cases"
+FILE = "crates/replay_search/data/refusals"
 NUMBERS = 10_240
 NO_ENTRY = 65535
 LENGTHS = ["mins", "maxs", "optional", "levels", "preferences", "rows", "starts", "lengths", "numbers", "whole", "orders", "draws", "plan"]

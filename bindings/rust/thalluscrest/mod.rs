@@ -1,7 +1,7 @@
 //! Thalluscrest for Rust programs: a module of std alone. Copy this folder, `mod thalluscrest;`, and link
-//! target/staticlib/libexports.a (`rt staticlib exports`):
+//! target/staticlib/libthalluscrest.a (`rt staticlib thalluscrest`):
 //!
-//!     rustc --edition 2024 program.rs -C link-arg=target/staticlib/libexports.a
+//!     rustc --edition 2024 program.rs -C link-arg=target/staticlib/libthalluscrest.a
 //!
 //! The archive links into x86-64 programs only: on another machine add `--target x86_64-unknown-linux-gnu`, if rustc has that
 //! target's library, and `-C linker=x86_64-linux-gnu-gcc`, and run with `./thalluscrest run ./program`.
@@ -375,7 +375,7 @@ impl Day {
     }
 
     /// The plans in dictionary order from number `first` on, as many as there is room for; room 0 asks for the total alone. Looks
-    /// at no more than `budget` starts of plans, and at far fewer than `plans` does. Takes about 385 KB of stack.
+    /// at no more than `budget` starts of plans, and at far fewer than `plans` does. Takes about 383 KB of stack.
     pub fn page(&self, rows: &[u64], first: u64, room: u64, budget: u64) -> Result<Page, Refusal> {
         let mut buffer = vec![0; room as usize * self.choices()];
         let figures = calls::list_page(
