@@ -18,7 +18,7 @@ ghost use Rattle.day_rows.specs.Told.{good};
 ghost use Rattle.plan_check.specs.Day.{dayOf};
 ghost use Rattle.list_nodes.specs.Judge.{judgeOf};
 ghost use Rattle.list_nodes.specs.steps.Runs.{Judged};
-ghost use Rattle.list_starts.specs.steps.PageEnd.{pagedTells};
+ghost use Rattle.list_starts.specs.PageAnswer.{pagedTells};
 ghost use Rattle.list_page.specs.Page.{Fits};
 
 // The first so many rows of a list; all of them if there are fewer.

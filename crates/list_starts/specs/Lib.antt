@@ -1,1 +1,2 @@
+pub mod PageAnswer
 pub mod steps

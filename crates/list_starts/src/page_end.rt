@@ -4,7 +4,8 @@ use day_rows::refusal::Refusal;
 ghost use mathlib.Core.Path.{_≡_};
 ghost use Rattle.day_rows.specs.Told.{done};
 ghost use Rattle.list_nodes.specs.steps.Run.{goesOn};
-ghost use Rattle.list_starts.specs.steps.PageEnd.{toldOf, pagedTells};
+ghost use Rattle.list_starts.specs.PageAnswer.{pagedTells};
+ghost use Rattle.list_starts.specs.steps.PageEnd.{toldOf};
 
 // What the call list_page answers: the plans written, with the total where no plan comes after the page, else
 // with the plans met until the walk stopped; or why it is refused.

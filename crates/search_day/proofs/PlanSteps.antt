@@ -32,7 +32,7 @@ use Rattle.search_meaning.specs.Calls.{Settled, searchedTells, searchOf}
 use Rattle.search_meaning.specs.declared.settings.Settings.{Settings}
 use Rattle.search_meaning.specs.declared.answer.Searched.{Searched}
 use Rattle.search_meaning.specs.Demand.{OwnMap}
-use Rattle.search_meaning.specs.steps.SearchAnswer.{AnswerSays}
+use Rattle.search_meaning.specs.SearchAnswer.{AnswerSays}
 use Rattle.search_meaning.proofs.Answers.{answered}
 use Rattle.search_day.specs.Planning.{withNumbers, wholeOf, givenWith, givenOwn, planDayOf}
 use Rattle.search_day.specs.declared.plan.PlanCounts.{PlanCounts}

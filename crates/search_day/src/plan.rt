@@ -19,7 +19,7 @@ ghost use Rattle.day_rows.specs.Check.{checkedTells};
 ghost use Rattle.day_rows.specs.Told.{good, outcome};
 ghost use Rattle.search_meaning.specs.Judged.{dayJudged};
 ghost use Rattle.search_meaning.specs.Calls.{searchedTells};
-ghost use Rattle.search_meaning.specs.steps.SearchAnswer.{AnswerSays};
+ghost use Rattle.search_meaning.specs.SearchAnswer.{AnswerSays};
 ghost use Rattle.search_day.specs.Planning.{withNumbers, givenWith, givenOwn, fullBy, planDayOf};
 
 // A day's counts as the call is given them: any numbers.

@@ -12,7 +12,7 @@ use Rattle.search_meaning.specs.declared.settings.Settings.{Settings}
 use Rattle.search_meaning.specs.declared.answer.Searched.{Searched}
 use Rattle.search_meaning.specs.declared.answer.Searched.the-variants as searched
 use Rattle.search_meaning.specs.Demand.{turnsThatSettle, OwnMap}
-use Rattle.search_meaning.specs.steps.SearchAnswer.{AnswerSays}
+use Rattle.search_meaning.specs.SearchAnswer.{AnswerSays}
 use Rattle.search_meaning.proofs.DemandHolds.{demand}
 
 module _ (given : Given) (settings : Settings) (before after : List ℕ) (full : settings .full ≡ true) (own : OwnMap given) where

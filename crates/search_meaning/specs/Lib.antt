@@ -3,4 +3,5 @@ pub mod Demand
 pub mod Given
 pub mod Judged
 pub mod Search
+pub mod SearchAnswer
 pub mod steps

@@ -1,3 +1,2 @@
--- The code's own steps, which contracts and laws need: nothing here is a rule of 01.
+-- The code's own steps, which contracts of functions below the calls need: nothing here is a rule of 01.
 pub mod Lengths
-pub mod SearchAnswer

@@ -20,7 +20,7 @@ use Rattle.day_file.specs.declared.counts.FileCounts.{FileCounts}
 use Rattle.search_meaning.specs.Calls.{Settled, searchedTells}
 use Rattle.search_meaning.specs.declared.answer.Searched.{Searched}
 use Rattle.search_meaning.specs.declared.answer.Searched.the-variants as searched
-use Rattle.search_meaning.specs.steps.SearchAnswer.{AnswerSays}
+use Rattle.search_meaning.specs.SearchAnswer.{AnswerSays}
 use Rattle.search_day.specs.Planning.{givenOwn, planDayOf}
 use Rattle.search_day.specs.declared.plan.PlanCounts.{PlanCounts}
 use Rattle.text_lines.specs.Put.{Pool, putAt}

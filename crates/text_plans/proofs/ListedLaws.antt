@@ -25,7 +25,7 @@ use Rattle.list_nodes.specs.Judge.{listLengthsFit, judgeOf}
 use Rattle.list_nodes.proofs.Members.{placement-length, sized-plans}
 use Rattle.list_nodes.proofs.PageLaws.{Sized, none, more, page-length}
 use Rattle.list_nodes.specs.Page.{PageTold, endedTold, goesOnTold, turnsTold, pagePut, Gives, ended, goes-on, out}
-use Rattle.list_starts.specs.steps.PageEnd.{pagedTells}
+use Rattle.list_starts.specs.PageAnswer.{pagedTells}
 use Rattle.list_page.specs.Page.{Fits, refuses, gives}
 use Rattle.list_starts.specs.declared.page_end.Paged.{Paged}
 use Rattle.list_starts.specs.declared.page_end.Paged.the-variants as paged

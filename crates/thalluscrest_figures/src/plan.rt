@@ -6,7 +6,7 @@ use plan_check::plan_check::PlanChecked;
 use roster_check::roster_check::RosterChecked;
 ghost use mathlib.Core.Path.{_≡_};
 ghost use Rattle.list_all.specs.Outcome.{listedTells};
-ghost use Rattle.list_starts.specs.steps.PageEnd.{pagedTells};
+ghost use Rattle.list_starts.specs.PageAnswer.{pagedTells};
 ghost use Rattle.plan_check.specs.Check.{planCheckedTells};
 ghost use Rattle.roster_check.specs.Check.{rosterTells};
 ghost use Rattle.thalluscrest_figures.specs.Crossing.{answer, toldFigures};

@@ -4,7 +4,7 @@ use Prim.Native.Nat.{_^_, _<_, _≤_}
 use native.Mathlib.Omega.{arith}
 use lib.ListN.{length}
 use Rattle.list_nodes.specs.Page.{endedTold, goesOnTold, turnsTold}
-use Rattle.list_starts.specs.steps.PageEnd.{pagedTells}
+use Rattle.list_starts.specs.PageAnswer.{pagedTells}
 use Rattle.text_lines.specs.Text.{ascii}
 use Rattle.text_lines.proofs.PlansLineLaws.{ended-is, goes-on-is, turns-is}
 use Rattle.text_plans.proofs.ListedLaws.{page-size, page-fits, lent-length, page-whole, page-puts, page-refused}

@@ -1,6 +1,6 @@
 -- What a page says: that its list ends, goes on or ran out of turns, with its counts.
 use mathlib.Core.Path.{_≡_, sym, _∙_, ap}
-use Rattle.list_starts.specs.steps.PageEnd.{pagedTells}
+use Rattle.list_starts.specs.PageAnswer.{pagedTells}
 use Rattle.thalluscrest_figures.specs.Crossing.{toldFigures}
 use Rattle.thalluscrest_figures.specs.Layouts.{pagedFigures}
 use borrow.Author.Needs.{needs}
