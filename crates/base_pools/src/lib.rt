@@ -1,5 +1,7 @@
 // What every crate with lent pools uses: a pool, or the part past its result, with zeros in it, new pools of
 // zeros, numbers widened and compared, and a byte set in its place.
+#![tactic(auto)]
+
 ghost use Rattle.std.specs.Prelude.{◌≡◌, ◌≤◌, length, replicate};
 
 pub mod insertion;

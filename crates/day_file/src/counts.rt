@@ -7,7 +7,7 @@ use day_rows::check::{Counts, Takes};
 
 // The counts of a day file, 'C, S, H, L (a byte each), row count (2 bytes)', as a call is given them: any
 // numbers.
-#[derive(Drop)]
+#[derive(Clone, Copy)]
 pub struct FileCounts {
     pub choices: usize,
     pub slots: usize,
@@ -17,7 +17,7 @@ pub struct FileCounts {
 }
 
 // The byte at which each part of a file starts, and the first byte past it.
-#[derive(Drop)]
+#[derive(Clone, Copy)]
 pub struct Places {
     pub levels: usize,
     pub preferences: usize,

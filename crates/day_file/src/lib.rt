@@ -1,4 +1,5 @@
 // The day file: a day's counts (`FileCounts`) and lists as bytes, in definitions a `FileDay`, and the reader.
+#![tactic(auto)]
 
 pub mod counts;
 pub mod file_words;

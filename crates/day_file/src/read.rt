@@ -15,7 +15,7 @@ use day_rows::check::Checked;
 use day_rows::refusal::Refusal;
 
 // What reading answers: the `FileCounts` of the day that stands in the pools, or why there is none.
-#[derive(Drop)]
+#[derive(Clone, Copy)]
 pub enum Read {
     Day(FileCounts),
     Refused(Refusal),

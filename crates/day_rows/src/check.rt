@@ -12,7 +12,7 @@ use super::row::Row;
 use super::table::{Columns, Name, Part};
 
 // A day's counts as a call is given them: any numbers.
-#[derive(Drop)]
+#[derive(Clone, Copy)]
 pub struct Counts {
     pub choices: usize,
     pub slots: usize,
@@ -22,7 +22,7 @@ pub struct Counts {
 
 // Which list a call takes, with its kinds: a day's given rows (all that the table has), the search's (1 to
 // 6), or the roster's (10 to 13).
-#[derive(Drop)]
+#[derive(Clone, Copy)]
 pub enum Takes {
     Given,
     Scheduling,
@@ -30,7 +30,7 @@ pub enum Takes {
 }
 
 // What the row check answers.
-#[derive(Drop)]
+#[derive(Clone, Copy)]
 pub enum Checked {
     Good,
     Refused(Refusal),

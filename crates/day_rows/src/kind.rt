@@ -2,7 +2,7 @@
 
 // A kind, by its code. The names are the Rust's; codes from 10 up count from 10 and not from the Rust's
 // limit.
-#[derive(Drop)]
+#[derive(Clone, Copy)]
 pub struct Kind(pub u16);
 
 impl Kind {

@@ -3,7 +3,7 @@ ghost use Rattle.std.specs.Prelude.{◌≡◌};
 ghost use Rattle.day_rows.specs.Op.{is_op};
 
 // An op, as the extra column holds it: 01's signed number plus 32,768, written so that both can be read.
-#[derive(Drop)]
+#[derive(Clone, Copy)]
 pub struct Op(pub u16);
 
 impl Op {

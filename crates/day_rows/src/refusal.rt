@@ -3,7 +3,7 @@ ghost use Rattle.std.specs.Prelude.{◌≡◌};
 ghost use Rattle.day_rows.specs.Refusal.{number_of};
 
 // Why a call refuses its input. Row carries the first row that breaks the table.
-#[derive(Drop)]
+#[derive(Clone, Copy)]
 pub enum Refusal {
     Count,
     Length,

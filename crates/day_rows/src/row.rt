@@ -7,7 +7,7 @@ use super::number::{Choice, Chooser, Slot};
 
 // A row by its columns. The extra column is kept 32,768 higher than 01's signed number, so that it needs no
 // sign.
-#[derive(Drop)]
+#[derive(Clone, Copy)]
 pub struct Row {
     pub kind: u16,
     pub left: u16,

@@ -1,4 +1,5 @@
 // The writer of day files: a day's `FileCounts` and lists, in definitions a `FileDay`, to bytes.
+#![tactic(auto)]
 
 mod put;
 mod word;

@@ -16,7 +16,7 @@ use day_rows::lists::{flags_fit, last_level, levels_rise, preferences_keep};
 use day_rows::refusal::Refusal;
 
 // What writing answers: how many bytes of the pool the file takes, or why there is none.
-#[derive(Drop)]
+#[derive(Clone, Copy)]
 pub enum Written {
     Bytes(usize),
     Refused(Refusal),

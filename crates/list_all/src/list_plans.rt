@@ -19,7 +19,7 @@ use list_starts::page::written_of;
 
 // What the listing answers: how many plans it wrote, how many there are and how many nodes it visited; or out
 // of turns; or why it is refused.
-#[derive(Drop)]
+#[derive(Clone, Copy)]
 pub enum Listed {
     Plans {
         written: u64,

@@ -1,5 +1,6 @@
 // What the walk looks at before it goes on from a start: all narrowing rules, and the places that the next
 // choice may take.
+#![tactic(auto)]
 
 mod alive;
 mod decided;

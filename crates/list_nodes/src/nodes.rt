@@ -11,7 +11,7 @@ use base_pools::zeros::figures;
 use day_rows::check::{Counts, Takes, counts_in_range};
 
 // How many nodes a day has, if they are within the budget.
-#[derive(Drop)]
+#[derive(Clone, Copy)]
 pub enum Counting {
     Within(u64),
     Over,

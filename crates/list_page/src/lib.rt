@@ -1,3 +1,4 @@
 // A page of a day's plans: the call list_page.
+#![tactic(auto)]
 
 pub mod page;

@@ -19,7 +19,7 @@ use list_tables::shape::TABLES;
 
 // Whether some slot's least count is one that it can't have; at least how many free choices stand in each
 // slot, and fewer than how many.
-#[derive(Drop)]
+#[derive(Clone, Copy)]
 pub struct Bounds {
     pub broken: bool,
     pub wants: [usize; 24],

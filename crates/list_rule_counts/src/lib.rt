@@ -1,4 +1,5 @@
 // How many choices the slots have at least and fewer than how many, and what that leaves of the domains.
+#![tactic(auto)]
 
 pub mod bounds;
 mod counts;

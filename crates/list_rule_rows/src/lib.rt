@@ -1,4 +1,5 @@
 // What the rows leave of the domains: a rule a kind, and every row in order.
+#![tactic(auto)]
 
 mod moves;
 pub mod narrow;

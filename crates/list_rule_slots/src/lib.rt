@@ -1,4 +1,5 @@
 // What each slot's sums and a row's limit leave of the places that choices may still take.
+#![tactic(auto)]
 
 pub mod limits;
 mod slot_sums;

@@ -13,7 +13,7 @@ use day_rows::row::Row;
 use list_domains::places::{is_only, kept};
 
 // How many choices must stand in a slot, and how many may.
-#[derive(Drop)]
+#[derive(Clone, Copy)]
 struct SlotCounts {
     must: usize,
     may: usize,

@@ -1,4 +1,5 @@
 // What the weight tables leave of the domains.
+#![tactic(auto)]
 
 pub mod figures;
 pub mod rule;

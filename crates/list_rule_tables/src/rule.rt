@@ -18,7 +18,7 @@ use list_tables::shape::TABLES;
 use list_tables::weight::weight_at;
 
 // What the free choices weigh together, and the heaviest of them.
-#[derive(Drop)]
+#[derive(Clone, Copy)]
 struct Weighed {
     spare: usize,
     heaviest: usize,

@@ -10,7 +10,7 @@ use day_rows::refusal::Refusal;
 
 // What the call list_page answers: the plans written, with the total where no plan comes after the page, else
 // with the plans met until the walk stopped; or why it is refused.
-#[derive(Drop)]
+#[derive(Clone, Copy)]
 pub enum Paged {
     Ended { written: u64, total: u64 },
     GoesOn { written: u64, met: u64 },

@@ -66,7 +66,7 @@ pub fn rows_after(rows: &[u64], front: usize) -> &[u64]
 
 // How many rows are decided with the next choice, the places that are open to it, and how many places are
 // left from the first open one on.
-#[derive(Drop)]
+#[derive(Clone, Copy)]
 pub struct Opened {
     pub front: usize,
     pub places: u64,

@@ -15,7 +15,7 @@ use list_twins::twins::twins_of;
 use plan_check::plan::OMITTED;
 
 // Where a choice stands, and the minimum and the maximum that it brings there.
-#[derive(Drop)]
+#[derive(Clone, Copy)]
 pub struct Stood {
     pub place: usize,
     pub least: usize,

@@ -1,5 +1,6 @@
 // The plan check: a plan's bytes, what rows ask of them, and whether a plan keeps a day's omissions, each
 // slot's sums and every row.
+#![tactic(auto)]
 
 pub mod feasible;
 pub mod kept;

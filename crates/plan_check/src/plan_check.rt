@@ -12,7 +12,7 @@ use day_rows::lists::flags_fit;
 use day_rows::refusal::Refusal;
 
 // What the plan check answers.
-#[derive(Drop)]
+#[derive(Clone, Copy)]
 pub enum PlanChecked {
     Feasible,
     Infeasible,

@@ -1,4 +1,6 @@
 // Lists a day's plans: plans [FIRST [ROOM [BUDGET]]], the day file on standard input.
+#![tactic(auto)]
+
 ghost use Rattle.std.specs.Prelude.{◌≡◌, length};
 
 use libc::{STDERR_FILENO, STDIN_FILENO, STDOUT_FILENO};

@@ -1,5 +1,7 @@
 // The reduction of a day's given rows (module 2): rows turned, rows that follow added, all sorted with equal
 // ones once.
+#![tactic(auto)]
+
 ghost use Rattle.std.specs.Prelude.{◌≡◌, length};
 ghost use Rattle.day_rows.specs.Told.{outcome};
 ghost use Rattle.reduce.specs.Reduction.{reduced_tells, reduction_of, reduce_of};
@@ -18,14 +20,14 @@ pub const MOST_ROWS: usize = 1024;
 
 // What a reduction hands back beside the pool: how many rows it holds, and whether two slots that must agree
 // differ.
-#[derive(Drop)]
+#[derive(Clone, Copy)]
 pub struct Reduction {
     pub count: usize,
     pub clash: bool,
 }
 
 // What reduce answers: the reduction beside the pool, or why there is none.
-#[derive(Drop)]
+#[derive(Clone, Copy)]
 pub enum Reduced {
     Rows(Reduction),
     Refused(Refusal),

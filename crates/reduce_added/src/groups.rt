@@ -12,7 +12,7 @@ use day_rows::row::Row;
 use reduce_union_find::{Grouped, UnionFind};
 
 // The groups one after another, and where each of so many ends.
-#[derive(Drop)]
+#[derive(Clone, Copy)]
 pub struct SameChoosers {
     pub members: [u16; 64],
     pub ends: [u8; 64],

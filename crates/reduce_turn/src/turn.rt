@@ -9,7 +9,7 @@ use day_rows::number::{Choice, Chooser, Slot};
 use day_rows::row::Row;
 
 // The rows of a day turned, in room for as many as may be given, and how many they are.
-#[derive(Drop)]
+#[derive(Clone, Copy)]
 pub struct Turned {
     pub numbers: [u64; 128],
     pub count: usize,

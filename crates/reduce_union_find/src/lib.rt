@@ -1,5 +1,7 @@
 // Union-find over the elements 0..C-1 (module 1): a record of parents and heights, by value in and by value
 // out.
+#![tactic(auto)]
+
 ghost use Rattle.std.specs.Prelude.{◌≡◌, ℕ, ◌+◌, ◌-◌, ◌≤◌, ◌<◌, length, get_or, []};
 ghost use Rattle.std.proofs.lemmas.List.Edits.{sets};
 ghost use Rattle.base_lists.specs.Group.{class_of, classes};
@@ -18,28 +20,28 @@ use heights::{is_higher, raised};
 pub mod heights;
 
 // 'The state of parents and heights is one record by value'; the parent 255 stands for none.
-#[derive(Drop)]
+#[derive(Clone, Copy)]
 pub struct UnionFind {
     pub parents: [u8; 64],
     pub heights: [u8; 64],
 }
 
 // What find answers: the root of an element.
-#[derive(Drop)]
+#[derive(Clone, Copy)]
 pub enum Found {
     Root(usize),
     Refused(Refusal),
 }
 
 // What join hands back: the root that both elements now have, and the record.
-#[derive(Drop)]
+#[derive(Clone, Copy)]
 pub struct Joined {
     pub found: Found,
     pub state: UnionFind,
 }
 
 // What groups answers: how many groups it wrote.
-#[derive(Drop)]
+#[derive(Clone, Copy)]
 pub enum Grouped {
     Groups(usize),
     Refused(Refusal),

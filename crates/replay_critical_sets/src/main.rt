@@ -1,4 +1,6 @@
 // Replays analyses of critical sets whose answers the Rust gave: the sets, the bound, and each level's list.
+#![tactic(auto)]
+
 use day_rows::refusal::Refusal;
 use sets_analysis::analysis::{Analysis, Analyzed, analyze};
 use sets_analysis::day::SetsCounts;

@@ -1,4 +1,6 @@
 // Replays readings of day files, good ones and damaged ones, whose answers were told from document 01 alone.
+#![tactic(auto)]
+
 use day_file::counts::FileCounts;
 use day_file::read::{Read, read_day};
 use day_rows::refusal::Refusal;

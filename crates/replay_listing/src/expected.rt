@@ -6,7 +6,7 @@ use list_starts::page_end::Paged;
 use test_cases::{BLANK, fill, is_filled, plus, same};
 
 // What a case expects: its total and nodes, and where its plans stand in the record.
-#[derive(Drop)]
+#[derive(Clone, Copy)]
 pub struct Expected {
     pub total: u64,
     pub nodes: u64,

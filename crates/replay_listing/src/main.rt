@@ -1,5 +1,7 @@
 // Replays listings whose answers a brute force gave: totals, nodes, every page of several sizes, and budgets
 // around the node count. Each page is asked of both calls, of the listing and of the walk.
+#![tactic(auto)]
+
 use day_rows::check::Counts;
 use expected::{Expected, budgets_agree, page_agrees, times};
 use list_all::list_plans::{Listed, list_plans};

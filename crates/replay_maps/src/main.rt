@@ -1,4 +1,6 @@
 // Replays own maps and lookups told from 01 alone, of any counts and lengths, with the pools that they leave.
+#![tactic(auto)]
+
 use day_rows::check::Counts;
 use day_rows::number::Choice;
 use day_rows::refusal::Refusal;
@@ -102,7 +104,7 @@ fn is_made(
 }
 
 // The lengths of an own map's three pools.
-#[derive(Drop)]
+#[derive(Clone, Copy)]
 struct PoolLengths {
     starts: usize,
     sizes: usize,
@@ -198,7 +200,7 @@ fn is_looked_up(bytes: &[u8], at: usize, why: u8, part: &[u16]) -> bool {
 }
 
 // The lengths of a lookup's slices, and how many of the numbers are written, the rest being 0.
-#[derive(Drop)]
+#[derive(Clone, Copy)]
 struct SliceLengths {
     starts: usize,
     sizes: usize,
@@ -208,7 +210,7 @@ struct SliceLengths {
 }
 
 // Where a lookup's slices stand behind the starts, and its answer.
-#[derive(Drop)]
+#[derive(Clone, Copy)]
 struct SlicePlaces {
     sizes: usize,
     numbers: usize,

@@ -16,7 +16,7 @@ const CHOICES: usize = 12;
 const BUDGET: u64 = 100_000_000;
 
 // What the whole told: each page has to tell it again.
-#[derive(Drop)]
+#[derive(Clone, Copy)]
 struct Whole {
     total: u64,
     nodes: u64,
@@ -24,7 +24,7 @@ struct Whole {
 
 // How many pages of a size were read to the end of the list, each equal to its part of the whole; or that one
 // wasn't.
-#[derive(Drop)]
+#[derive(Clone, Copy)]
 enum Joined {
     Equal(u64),
     Differ,

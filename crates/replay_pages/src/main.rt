@@ -1,5 +1,7 @@
 // The pages of an example day joined are its whole list: the skills day with over a thousand plans, read,
 // reduced and listed page by page.
+#![tactic(auto)]
+
 ghost use Rattle.std.specs.Prelude.{◌≡◌, length};
 
 use day_file::read::{Read, read_day};

@@ -1,4 +1,6 @@
 // Replays whole texts of the program `plan`, whose answers were told from document 01 alone.
+#![tactic(auto)]
+
 ghost use Rattle.std.specs.Prelude.{◌≡◌, length};
 
 use test_cases::replay::Replay;

@@ -1,4 +1,6 @@
 // Replays plan checks whose answers the Rust gave.
+#![tactic(auto)]
+
 use day_rows::check::Counts;
 use plan_check::plan_check::{PlanChecked, check_plan};
 use test_cases::replay::Replay;

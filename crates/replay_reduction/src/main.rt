@@ -1,5 +1,7 @@
 // Replays reductions whose answers the Rust gave: the rows, the clash flag, and 6 where there are over 1,024
 // rows before equals are dropped.
+#![tactic(auto)]
+
 use day_rows::check::Counts;
 use day_rows::refusal::Refusal;
 use reduce::{Reduced, Reduction};

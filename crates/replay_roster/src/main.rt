@@ -1,4 +1,6 @@
 // Replays roster checks: those that the Rust answered, and those told from 01 alone, most of them refused.
+#![tactic(auto)]
+
 use day_rows::refusal::Refusal;
 use roster_check::roster_check::{RosterChecked, RosterCounts, check_roster};
 use test_cases::parts::{after, few_bytes, words};
@@ -6,7 +8,7 @@ use test_cases::replay::Replay;
 use test_cases::{Tally, byte, first_bytes, first_rows, first_words, plus, word};
 
 // The lengths of the slices that a case lends.
-#[derive(Drop)]
+#[derive(Clone, Copy)]
 struct Lengths {
     mins: usize,
     maxs: usize,
@@ -19,7 +21,7 @@ struct Lengths {
 }
 
 // Where a record's rows, its assignment rows and its other slices start.
-#[derive(Drop)]
+#[derive(Clone, Copy)]
 struct Places {
     rows: usize,
     assignment_rows: usize,
@@ -28,7 +30,7 @@ struct Places {
 
 // What a case expects: 0 failed, 1 passed, 100 more than a refusal's number; and the highest preference, or
 // the row carried.
-#[derive(Drop)]
+#[derive(Clone, Copy)]
 struct Expected {
     outcome: u8,
     value: u16,

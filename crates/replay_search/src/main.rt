@@ -1,4 +1,6 @@
 // Replays searches: whole days that the oracle answered, and calls told from 01 alone, most of them refused.
+#![tactic(auto)]
+
 use test_cases::Tally;
 use test_cases::replay::Replay;
 

@@ -8,7 +8,7 @@ use test_search_cases::records::{Lengths, Places, analysis_of};
 
 // The lengths of the rows, of the map's parts and of the whole list; and how many of the numbers are written,
 // the rest being 0.
-#[derive(Drop)]
+#[derive(Clone, Copy)]
 struct RowLengths {
     rows: usize,
     starts: usize,
@@ -19,7 +19,7 @@ struct RowLengths {
 }
 
 // Where the map's parts and the whole list start.
-#[derive(Drop)]
+#[derive(Clone, Copy)]
 struct MapPlaces {
     starts: usize,
     sizes: usize,

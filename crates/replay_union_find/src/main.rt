@@ -1,11 +1,13 @@
 // Replays union-find runs whose answers the Rust gave: joins, then the root of each element, then the groups,
 // then the record.
+#![tactic(auto)]
+
 use reduce_union_find::{Found, Grouped, UnionFind};
 use test_cases::replay::Replay;
 use test_cases::{Tally, byte, plus, same, word};
 
 // A union-find made by a run's joins, and whether each join answered as expected so far.
-#[derive(Drop)]
+#[derive(Clone, Copy)]
 struct Run {
     state: UnionFind,
     agrees: bool,

@@ -17,7 +17,7 @@ use roster_rows::assignment::keeps_assignment_rows;
 use roster_rows::judge::judge_cells;
 
 // A roster check's counts as a call is given them: any numbers.
-#[derive(Drop)]
+#[derive(Clone, Copy)]
 pub struct RosterCounts {
     pub choices: usize,
     pub slots: usize,
@@ -28,7 +28,7 @@ pub struct RosterCounts {
 }
 
 // What the roster check answers: passed or not, each with the highest preference met.
-#[derive(Drop)]
+#[derive(Clone, Copy)]
 pub enum RosterChecked {
     Passes(u16),
     Fails(u16),

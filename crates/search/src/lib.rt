@@ -1,5 +1,6 @@
 // The search as a call: its refusals, its sets, and its passes from the start up, each at its limit; what its
 // answers say is in proofs/.
+#![tactic(auto)]
 
 mod order;
 pub mod pass;

@@ -1,5 +1,6 @@
 // The candidates of a new depth, and what a list of rows allows: whether a choice may take a place, beside
 // the choices that are decided.
+#![tactic(auto)]
 
 pub mod allow;
 pub mod bucket;

@@ -19,7 +19,7 @@ use search_meaning::judge::judge_day;
 use sets_analysis::analysis::Analysis;
 
 // A day's counts as the call is given them: any numbers.
-#[derive(Drop)]
+#[derive(Clone, Copy)]
 pub struct PlanCounts {
     pub choices: usize,
     pub slots: usize,

@@ -8,7 +8,7 @@ use search_meaning::answer::Searched;
 use search_pass::pass::Passed;
 
 // The answer, or the turns left and the place of the next draw for the pass at the next level.
-#[derive(Drop)]
+#[derive(Clone, Copy)]
 pub enum Step {
     Answer(Searched),
     On { left: u64, draw: usize },

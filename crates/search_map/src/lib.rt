@@ -1,4 +1,5 @@
 // The rows that a choice is tried against: the own map of a list of rows, and the lookup in any map.
+#![tactic(auto)]
 
 mod entry;
 pub mod lookup;

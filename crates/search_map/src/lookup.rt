@@ -10,7 +10,7 @@ use day_rows::number::Choice;
 use day_rows::refusal::Refusal;
 
 // How many choices, rows and numbers a map is lent for: any numbers.
-#[derive(Drop)]
+#[derive(Clone, Copy)]
 pub struct MapCounts {
     pub choices: usize,
     pub rows: usize,

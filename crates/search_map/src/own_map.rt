@@ -13,7 +13,7 @@ use day_rows::check::{Checked, Counts, Takes, check_each_row, counts_in_range};
 use day_rows::refusal::Refusal;
 
 // What the own map answers: how many numbers it has, or why it is refused.
-#[derive(Drop)]
+#[derive(Clone, Copy)]
 pub enum Mapped {
     Numbers(usize),
     Refused(Refusal),

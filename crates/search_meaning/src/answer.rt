@@ -3,7 +3,7 @@ use day_rows::refusal::Refusal;
 
 // A plan is found, there is none, or turns ran out, each with 'turns, passes begun and the last limit'; or
 // why the search is refused.
-#[derive(Drop)]
+#[derive(Clone, Copy)]
 pub enum Searched {
     Found {
         turns: u64,

@@ -6,7 +6,7 @@ use day_rows::check::Counts;
 use sets_analysis::day::SetsCounts;
 
 // A day's counts as a search is given them, the map's numbers among them: any numbers.
-#[derive(Drop)]
+#[derive(Clone, Copy)]
 pub struct SearchCounts {
     pub choices: usize,
     pub slots: usize,

@@ -3,7 +3,7 @@ use sets_analysis::analysis::Analysis;
 
 // A search's settings: full, or as the Rust; 'analysis off, on, or simplified'; whether to start at the last
 // level; and both budgets of turns.
-#[derive(Drop)]
+#[derive(Clone, Copy)]
 pub struct Settings {
     pub full: bool,
     pub analysis: Analysis,

@@ -1,3 +1,4 @@
 // One pass of the search.
+#![tactic(auto)]
 
 pub mod pass;

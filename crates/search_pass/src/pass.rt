@@ -19,7 +19,7 @@ use search_turn::state::SearchState;
 use search_turn::turn::{closes, turned};
 
 // How a pass ended, with the turns left and the place of the next draw.
-#[derive(Drop)]
+#[derive(Clone, Copy)]
 pub enum Passed {
     Found { left: u64, draw: usize },
     Without { left: u64, draw: usize },

@@ -9,7 +9,7 @@ use day_rows::check::Counts;
 use plan_check::feasible::is_feasible;
 
 // A plan that passes, the end of the pass, or neither.
-#[derive(Drop)]
+#[derive(Clone, Copy)]
 pub enum Sight {
     Goal,
     Over,

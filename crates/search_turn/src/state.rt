@@ -5,7 +5,7 @@ use search_candidates::decision::UNDECIDED;
 
 // A state of the search: each choice's decision; each slot's sum of min, sum of max and count of choices; the
 // depth, whether its candidates are still to be made, and the sum of max of the choices from there on.
-#[derive(Drop)]
+#[derive(Clone, Copy)]
 pub struct SearchState {
     pub decisions: [u8; 64],
     pub slot_min: [u32; 24],

@@ -18,7 +18,7 @@ use day_rows::lists::{last_level, levels_rise, preferences_keep};
 use day_rows::refusal::Refusal;
 
 // 'analysis off, on, or simplified'.
-#[derive(Drop)]
+#[derive(Clone, Copy)]
 pub enum Analysis {
     Off,
     On,
@@ -26,7 +26,7 @@ pub enum Analysis {
 }
 
 // What the analysis answers: how many sets there are and the bound, or why it is refused.
-#[derive(Drop)]
+#[derive(Clone, Copy)]
 pub enum Analyzed {
     Sets { count: usize, bound: u16 },
     Refused(Refusal),

@@ -6,7 +6,7 @@ use base_choice_sets::set::with;
 use base_pools::number::wide_amount;
 
 // A chooser's set at a level, before it is kept or skipped.
-#[derive(Drop)]
+#[derive(Clone, Copy)]
 pub(crate) struct Candidate {
     pub(crate) members: u64,
     pub(crate) min_sum: u32,

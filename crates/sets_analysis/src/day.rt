@@ -4,7 +4,7 @@ ghost use Rattle.day_rows.specs.Levels.{levels_in_range};
 ghost use Rattle.sets_analysis.specs.SetsDay.{day_of, sets_counts_in_range, sets_lengths_fit};
 
 // A day's counts as the analysis is given them: any numbers.
-#[derive(Drop)]
+#[derive(Clone, Copy)]
 pub struct SetsCounts {
     pub choices: usize,
     pub slots: usize,

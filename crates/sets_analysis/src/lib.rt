@@ -1,5 +1,6 @@
 // Critical sets: which are kept, and their bound; in proofs/ also the laws of kept sets, simplifying and
 // levels' lists.
+#![tactic(auto)]
 
 pub mod analysis;
 mod bound;

@@ -1,6 +1,8 @@
 // Files of cases with their expected answers, as the oracle writes them: records, each with the length of its
 // rest before it; and what the programs that replay them share.
 // Reading past a record's end gives 0, so that a damaged file shows as a difference.
+#![tactic(auto)]
+
 ghost use Rattle.std.specs.Prelude.{◌≡◌, ◌+◌, ◌%◌, ◌^◌, length, take, drop, replicate, slice_index};
 ghost use Rattle.test_cases.specs.steps.Alike.{alike};
 ghost use Rattle.test_cases.specs.steps.Buffers.{filled};
@@ -18,7 +20,7 @@ pub const BLANK: u8 = 119;
 
 // What comes next in a file: a record of a length, or the file's end, or a record that is cut short or too
 // long for the buffer.
-#[derive(Drop)]
+#[derive(Clone, Copy)]
 enum Next {
     Record(usize),
     End,
@@ -26,7 +28,7 @@ enum Next {
 }
 
 // How many cases were compared and how many differed, and the number of the first that did.
-#[derive(Drop)]
+#[derive(Clone, Copy)]
 pub struct Tally {
     pub cases: u64,
     pub differ: u64,

@@ -10,7 +10,7 @@ const MOST_RECORDS: u64 = 0x1_0000_0000;
 
 // A replay between two records: its file, how many records may still come (0 once the file has ended), and
 // the tally of those that were judged.
-#[derive(Drop)]
+#[derive(Clone, Copy)]
 pub struct Replay {
     file: i32,
     pub left: u64,

@@ -1,6 +1,8 @@
 // Prints the row check's answer for every kind 0 to 17 with each column at its limits, and for the counts and
 // the length at theirs. The file stdout beside src/ was written by expected.py, which knows nothing of this
 // code.
+#![tactic(auto)]
+
 use day_rows::check::{Checked, Counts, Takes, check_rows};
 use day_rows::kind::Kind;
 use day_rows::op::Op;

@@ -15,7 +15,7 @@ fn outcome_of(written: u8) -> u16 {
 
 // An answer as a record tells it: a refusal's number with 100 more, and in place of the turns the row that it
 // carries.
-#[derive(Drop)]
+#[derive(Clone, Copy)]
 struct Told {
     outcome: u16,
     turns: u64,

@@ -7,7 +7,7 @@ use test_cases::parts::after;
 use test_cases::{byte, number, plus, word};
 
 // The lengths of the slices that a case lends beside its rows and its map.
-#[derive(Drop)]
+#[derive(Clone, Copy)]
 pub struct Lengths {
     pub mins: usize,
     pub maxs: usize,
@@ -20,7 +20,7 @@ pub struct Lengths {
 }
 
 // Where these slices start, and the answer.
-#[derive(Drop)]
+#[derive(Clone, Copy)]
 pub struct Places {
     pub mins: usize,
     pub maxs: usize,

@@ -2,7 +2,7 @@
 use day_rows::refusal::Refusal;
 
 // How many bytes the text takes, or why there is none.
-#[derive(Drop)]
+#[derive(Clone, Copy)]
 pub enum Made {
     Text(usize),
     Refused(Refusal),

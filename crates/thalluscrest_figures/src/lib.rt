@@ -1,4 +1,5 @@
 // The answers of the library's calls as other languages get them: 0 or 01's number, and eight figures.
+#![tactic(auto)]
 
 pub mod codes;
 pub mod counts;
