@@ -1,0 +1,7 @@
+-- The file's words, and zeros after them.
+use Rattle.base_pools.proofs.Clearing.{cleared-past}
+use Rattle.day_file.proofs.fill.fill_words.Goals as goal
+
+pub returns : goal.returns
+returns c =
+    cleared-past _ _ _ _ _ c.pool-1.given c.requires.0 c.put_words.ensures c.clear_words.ensures

@@ -1,0 +1,24 @@
+use mathlib.Core.Path.{sym}
+use mathlib.Core.Bool.{true}
+use Prim.Native.Nat.{◌-◌}
+use borrow.Author.Tests.{le-leb, lt-leb}
+use Rattle.base_lists.proofs.Below.{all_more, one-fails}
+use Rattle.base_lists.proofs.Through.{all_none, all_done}
+use borrow.Author.Rules.{rules}
+use Rattle.day_file.proofs.judge.optional_in.Goals as goal
+
+pub loop-i-init : goal.loop-i-init
+loop-i-init c =
+    (search rules, all_none _)
+
+pub returns-then-file-i-gt1 : goal.returns-then-file-i-gt1
+returns-then-file-i-gt1 c =
+    sym (one-fails _ _ _ c.loop-i-test.true (lt-leb _ _ c.if-file-i-gt1.true))
+
+pub loop-i-preserved : goal.loop-i-preserved
+loop-i-preserved c =
+    (search rules, all_more _ _ c.loop-i.invariant.1 (le-leb _ _ c.if-file-i-gt1.false))
+
+pub returns : goal.returns
+returns c =
+    all_done _ _ _ c.loop-i.invariant.0 c.loop-i-test.false c.loop-i.invariant.1

@@ -1,0 +1,24 @@
+-- Each count is the byte or the word at its place.
+use native.Mathlib.Omega.{arith}
+use Rattle.day_file.proofs.JudgeLaws.{counts-read}
+use Rattle.day_file.proofs.read.counts_in.Goals as goal
+
+pub overflow_cast-result : goal.overflow_cast-result
+overflow_cast-result c =
+    omega (arith, c.shared_slice_known-2-1.given 5)
+
+pub overflow_cast-result-2 : goal.overflow_cast-result-2
+overflow_cast-result-2 c =
+    omega (arith, c.shared_slice_known-3-1.given 6)
+
+pub overflow_cast-result-3 : goal.overflow_cast-result-3
+overflow_cast-result-3 c =
+    omega (arith, c.shared_slice_known-4-1.given 7)
+
+pub overflow_cast-result-4 : goal.overflow_cast-result-4
+overflow_cast-result-4 c =
+    omega (arith, c.shared_slice_known-5-1.given 8)
+
+pub returns : goal.returns
+returns c =
+    counts-read _ c.word_at.ensures

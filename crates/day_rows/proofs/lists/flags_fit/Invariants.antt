@@ -1,0 +1,16 @@
+-- The loop's invariant: every entry before i is at most the limit.
+use mathlib.Core.Path.{◌≡◌}
+use mathlib.Core.Bool.{true}
+use Prim.Native.Nat.{◌-◌, ◌≤◌}
+use lib.Dec.{leb}
+use lib.ListN.{length, get_or}
+use Rattle.base_lists.specs.Below.{all_below}
+use Rattle.day_rows.proofs.lists.flags_fit.Given as goal
+
+abbrev pub invariant-loop-i : goal.invariant-loop-i
+invariant-loop-i l =
+    (l.i ≤ length l.optional) × (all_below l.i (λ k. leb (get_or l.optional k 0) 1) ≡ true)
+
+abbrev pub decreases-loop-i : goal.decreases-loop-i
+decreases-loop-i l =
+    length l.optional - l.i

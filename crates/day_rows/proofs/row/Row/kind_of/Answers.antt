@@ -1,0 +1,8 @@
+-- The kind is a field of the number's row.
+use mathlib.Core.Path.{ap}
+use Rattle.day_rows.specs.declared.row.Row.{Row}
+use Rattle.day_rows.proofs.row.Row.kind_of.Goals as goal
+
+pub returns : goal.returns
+returns c =
+    ap (λ (row : Row). row.kind) c.of.ensures

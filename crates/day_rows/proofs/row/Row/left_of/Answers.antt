@@ -1,0 +1,8 @@
+-- The left column is a field of the number's row.
+use mathlib.Core.Path.{ap}
+use Rattle.day_rows.specs.declared.row.Row.{Row}
+use Rattle.day_rows.proofs.row.Row.left_of.Goals as goal
+
+pub returns : goal.returns
+returns c =
+    ap (λ (row : Row). row.left) c.of.ensures

@@ -1,0 +1,9 @@
+-- The columns are the definition's quotients and remainders; each fits sixteen bits.
+use mathlib.Core.Path.{refl}
+use Rattle.day_rows.specs.Row.{row_of}
+use Rattle.day_rows.proofs.row.Row.of.Goals as goal
+
+pub returns : goal.returns
+unfolding row_of
+returns c =
+    refl

@@ -1,0 +1,7 @@
+-- The lack, and what the choice leaves of it.
+use Rattle.list_look.proofs.SlotLaws.{leaves_by}
+use Rattle.list_look.proofs.open.leaves_enough.Goals as goal
+
+pub returns : goal.returns
+returns c =
+    leaves_by _ _ _ _ _ _ _ _ _ _ _ _ c.less-lack.ensures c.less.ensures c.lightest-rest.ensures.0 c.lightest-whole.ensures.0

@@ -1,0 +1,16 @@
+-- A slot that lacks something, fits, and leaves enough.
+use borrow.Author.Tests.{not-true, not-false}
+use Rattle.list_look.proofs.SlotLaws.{open_filled, open_full, open_fitting}
+use Rattle.list_look.proofs.open.slot_open.Goals as goal
+
+pub returns-then-choosers-slot_max : goal.returns-then-choosers-slot_max
+returns-then-choosers-slot_max c =
+    open_filled _ _ _ _ _ _ _ _ _ _ _ c.requires.1.1 c.if-choosers-slot_max.true
+
+pub returns-then-not-slot_fits : goal.returns-then-not-slot_fits
+returns-then-not-slot_fits c =
+    open_full _ _ _ _ _ _ _ _ _ _ _ c.slot_fits.ensures (not-true _ c.if-not-slot_fits.true)
+
+pub returns : goal.returns
+returns c =
+    open_fitting _ _ _ _ _ _ _ _ _ _ _ c.slot_fits.ensures (not-false _ c.if-not-slot_fits.false) c.leaves_enough.ensures

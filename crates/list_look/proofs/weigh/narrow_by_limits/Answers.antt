@@ -1,0 +1,12 @@
+-- A slot's least count is one that it can't have, or what tables and then counts leave.
+use Rattle.list_look.proofs.StepLaws.{limits-broken, limits-by}
+use Rattle.list_look.proofs.weigh.narrow_by_limits.Goals as goal
+
+pub returns-then-bounds : goal.returns-then-bounds
+returns-then-bounds c =
+    limits-broken _ _ _ _ _ _ _ c.bounds_of-bounds.ensures.0 c.if-bounds.true c.no_places.ensures
+
+pub returns : goal.returns
+returns c =
+    let b = c.bounds_of-bounds.ensures in
+    limits-by _ _ _ _ _ _ _ b.0 c.if-bounds.false b.1.0 b.1.1 c.narrow_by_tables.ensures c.narrow_by_counts.ensures

@@ -1,0 +1,26 @@
+-- Each refusal of the listing in its turn.
+use mathlib.Core.Path.{sym, ◌∙◌}
+use Rattle.day_rows.proofs.Outcomes.{told-by}
+use borrow.Author.Tests.{not-true, not-false}
+use Rattle.list_nodes.proofs.JudgeLaws.{judge_count, judge_length, judge_row, judge_flag, judge_good}
+use Rattle.list_nodes.proofs.judge.judge.Goals as goal
+
+pub returns-then-not-counts_in_range : goal.returns-then-not-counts_in_range
+returns-then-not-counts_in_range c =
+    judge_count _ _ _ (sym c.counts_in_range.ensures ∙ not-true _ c.if-not-counts_in_range.true)
+
+pub returns-then-not-lengths_fit : goal.returns-then-not-lengths_fit
+returns-then-not-lengths_fit c =
+    judge_length _ _ _ (sym c.counts_in_range.ensures ∙ not-false _ c.if-not-counts_in_range.false) (sym c.lengths_fit.ensures ∙ not-true _ c.if-not-lengths_fit.true)
+
+pub returns-in-Refused : goal.returns-in-Refused
+returns-in-Refused c =
+    judge_row _ _ _ (sym c.counts_in_range.ensures ∙ not-false _ c.if-not-counts_in_range.false) (sym c.lengths_fit.ensures ∙ not-false _ c.if-not-lengths_fit.false) (told-by c.check_each_row-checked.ensures c.checked-1.given.1)
+
+pub returns-then-not-flags_fit : goal.returns-then-not-flags_fit
+returns-then-not-flags_fit c =
+    judge_flag _ _ _ (sym c.counts_in_range.ensures ∙ not-false _ c.if-not-counts_in_range.false) (sym c.lengths_fit.ensures ∙ not-false _ c.if-not-lengths_fit.false) (told-by c.check_each_row-checked.ensures c.enum_told-1.given.1) (sym c.flags_fit.ensures ∙ not-true _ c.if-not-flags_fit.true)
+
+pub returns : goal.returns
+returns c =
+    judge_good _ _ _ (sym c.counts_in_range.ensures ∙ not-false _ c.if-not-counts_in_range.false) (sym c.lengths_fit.ensures ∙ not-false _ c.if-not-lengths_fit.false) (told-by c.check_each_row-checked.ensures c.enum_told-1.given.1) (sym c.flags_fit.ensures ∙ not-false _ c.if-not-flags_fit.false)

@@ -1,0 +1,25 @@
+-- Each op's arm has the key that it matched; past them all, none of the four.
+use mathlib.Core.Path.{◌∙◌}
+use Rattle.list_rule_counts.proofs.LimitLaws.{raised_eq, raised_geq, raised_gt, raised_neq, raised_not}
+use Rattle.list_rule_counts.proofs.limits.raised.Goals as goal
+
+pub returns-in-32769 : goal.returns-in-32769
+returns-in-32769 c =
+    c.larger.ensures ∙ raised_eq _ _ _ c.in-32769.keys1
+
+pub returns-in-32771 : goal.returns-in-32771
+returns-in-32771 c =
+    c.larger-in-32771.ensures ∙ raised_geq _ _ _ c.in-32771.keys2
+
+pub returns-in-32770 : goal.returns-in-32770
+returns-in-32770 c =
+    c.larger-in-32770.ensures ∙ raised_gt _ _ _ _ c.past.ensures c.in-32770.keys3
+
+pub returns-in-32767 : goal.returns-in-32767
+returns-in-32767 c =
+    c.other_than.ensures ∙ raised_neq _ _ _ c.in-32767.keys4
+
+pub returns-in_default : goal.returns-in_default
+returns-in_default c =
+    let r = c.in_default.rest in
+    raised_not _ _ _ r.0.0.0.1 r.0.0.1 r.0.1 r.1

@@ -1,0 +1,7 @@
+-- What the two sides can face.
+use mathlib.Core.Path.{◌∙◌}
+use Rattle.list_rule_rows.proofs.SideLaws.{right-faced}
+use Rattle.list_rule_rows.proofs.sides.right_by_offset.Goals as goal
+
+pub returns : goal.returns
+returns c = c.facing_places.ensures ∙ right-faced _ _ _ _

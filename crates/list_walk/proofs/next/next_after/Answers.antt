@@ -1,0 +1,5 @@
+-- The next place after one fewer.
+use Rattle.list_walk.proofs.next.next_after.Goals as goal
+
+pub returns : goal.returns
+returns c = rw c.less.ensures at c.next_open.ensures

@@ -1,0 +1,25 @@
+use borrow.Author.Rules.{rules}
+use mathlib.Core.Path.{◌∙◌}
+use mathlib.Core.Bool.{true}
+use Prim.Native.Nat.{◌-◌}
+use native.Mathlib.Omega.{arith}
+use Rattle.base_lists.specs.Group.{times_in}
+use Rattle.base_lists.proofs.Through.{all_none, all_done}
+use Rattle.roster_rows.proofs.KindLaws.{choosers-equal, choosers_differ, choosers-agree}
+use Rattle.roster_rows.proofs.assignment.same_choosers.Goals as goal
+
+pub loop-chooser-init : goal.loop-chooser-init
+loop-chooser-init c =
+    (search rules, all_none _)
+
+pub returns-then-times_in : goal.returns-then-times_in
+returns-then-times_in c =
+    choosers_differ _ _ _ _ _ _ _ c.Cells-of.ensures c.times_in.ensures c.times_in-in-loop-chooser.ensures c.loop-chooser-test.true c.if-times_in.true
+
+pub loop-chooser-preserved : goal.loop-chooser-preserved
+loop-chooser-preserved c =
+    (omega arith, choosers-agree _ c.args.choosers _ _ _ _ _ c.Cells-of.ensures c.times_in.ensures c.times_in-in-loop-chooser.ensures c.if-times_in.false c.loop-chooser.invariant.1)
+
+pub returns : goal.returns
+returns c =
+    all_done _ _ _ c.loop-chooser.invariant.0 c.loop-chooser-test.false c.loop-chooser.invariant.1 ∙ choosers-equal _ _ _ _ _

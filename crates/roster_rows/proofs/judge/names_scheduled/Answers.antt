@@ -1,0 +1,7 @@
+-- A choice is scheduled by its byte.
+use Rattle.roster_rows.proofs.JudgeLaws.{named_by}
+use Rattle.roster_rows.proofs.judge.names_scheduled.Goals as goal
+
+pub returns : goal.returns
+returns c =
+    named_by _ _ c.slot_of.ensures

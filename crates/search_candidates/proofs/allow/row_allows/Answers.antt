@@ -1,0 +1,32 @@
+-- Each kind's arm is its sentence, one arm for kinds 3 to 5; past them all, no place is allowed.
+use mathlib.Core.Path.{sym, ◌∙◌, ap}
+use lib.Dec.{eqb}
+use Rattle.search_candidates.proofs.CaseLaws.{none_of, allows_in_slot, allows-not_in_slot, allows-between, allows_limited_size, allows-none-below, allows-none-above}
+use Rattle.search_candidates.proofs.allow.row_allows.Goals as goal
+
+pub returns-in-1 : goal.returns-in-1
+returns-in-1 c =
+    ap (eqb _) c.right_of.ensures ∙ sym (allows_in_slot _ _ _ _ _ (sym c.kind_of.ensures ∙ c.in-1.keys1))
+
+pub returns-in-2 : goal.returns-in-2
+returns-in-2 c =
+    rw c.right_of-in-2.ensures (sym (allows-not_in_slot _ _ _ _ _ (sym c.kind_of.ensures ∙ c.in-2.keys2)))
+
+pub returns-in-6 : goal.returns-in-6
+returns-in-6 c =
+    c.room_allows.ensures ∙ sym (allows_limited_size _ _ _ _ _ (sym c.kind_of.ensures ∙ c.in-6.keys3))
+
+pub returns-in-3 : goal.returns-in-3
+returns-in-3 c =
+    let r = c.in_default-1.rest in
+    let e = c.kind_of.ensures in
+    c.pair_allows.ensures ∙ sym (allows-between _ _ _ _ _ (rw (sym e) c.if-this-lt1.false) (rw (sym e) c.if-this-lt6.true) (none_of e r.0.0.1) (none_of e r.0.1))
+
+pub returns-in_default : goal.returns-in_default
+returns-in_default c =
+    sym (allows-none-below _ _ _ _ _ (rw (sym c.kind_of.ensures) c.if-this-lt1.true))
+
+pub returns-in_default-2 : goal.returns-in_default-2
+returns-in_default-2 c =
+    let e = c.kind_of.ensures in
+    sym (allows-none-above _ _ _ _ _ (rw (sym e) c.if-this-lt6.false) (none_of e c.in_default-1.rest.1))
