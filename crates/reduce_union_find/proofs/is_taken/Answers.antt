@@ -3,7 +3,6 @@ use mathlib.Core.Bool.{true}
 use Prim.Native.Nat.{◌-◌}
 use native.Mathlib.Omega.{arith}
 use borrow.Author.Rules.{rules}
-use borrow.Author.Tests.{not-true, not-false}
 use Rattle.base_lists.specs.Below.{all_below}
 use Rattle.base_lists.proofs.Below.{all_more}
 use Rattle.reduce_union_find.proofs.Entry.{taken-over, taken_unsound, taken-sound}
@@ -17,10 +16,10 @@ unfolding all_below
 loop-i-init c = (search rules, c.if-choices-gt64.false, refl)
 
 pub returns-then-not-is_sound : goal.returns-then-not-is_sound
-returns-then-not-is_sound c = sym (taken_unsound _ _ _ c.loop-i-test.true (sym c.is_sound.ensures ∙ not-true _ c.if-not-is_sound.true))
+returns-then-not-is_sound c = sym (taken_unsound _ _ _ c.loop-i-test.true (sym c.is_sound.ensures ∙ c.if-not-is_sound.true-raw))
 
 pub loop-i-preserved : goal.loop-i-preserved
-loop-i-preserved c = (search rules, search rules, all_more _ _ c.loop-i.invariant.2 (sym c.is_sound.ensures ∙ not-false _ c.if-not-is_sound.false))
+loop-i-preserved c = (search rules, search rules, all_more _ _ c.loop-i.invariant.2 (sym c.is_sound.ensures ∙ c.if-not-is_sound.false-raw))
 
 pub returns : goal.returns
 returns c =

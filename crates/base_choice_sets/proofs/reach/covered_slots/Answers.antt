@@ -1,6 +1,5 @@
 use mathlib.Core.Path.{sym, ◌∙◌}
 use Prim.Native.Nat.{◌-◌}
-use borrow.Author.Tests.{not-true, not-false}
 use Rattle.base_choice_sets.proofs.ReachLaws.{covered_start, covered_on, covered_past, covered_all}
 use borrow.Author.Rules.{rules}
 use Rattle.base_choice_sets.proofs.reach.covered_slots.Goals as goal
@@ -10,11 +9,11 @@ loop-slot-init c = (search rules, search rules, covered_start _ _)
 
 pub loop-slot-preserved-then-not-meet : goal.loop-slot-preserved-then-not-meet
 loop-slot-preserved-then-not-meet c =
-    (search rules, search rules, covered_past _ _ _ _ c.loop-slot.invariant.2 (sym c.meet.ensures ∙ not-true _ c.if-not-meet.true))
+    (search rules, search rules, covered_past _ _ _ _ c.loop-slot.invariant.2 (sym c.meet.ensures ∙ c.if-not-meet.true-raw))
 
 pub loop-slot-preserved : goal.loop-slot-preserved
 loop-slot-preserved c =
-    (search rules, search rules, covered_on _ _ _ _ c.loop-slot.invariant.2 (sym c.meet.ensures ∙ not-false _ c.if-not-meet.false))
+    (search rules, search rules, covered_on _ _ _ _ c.loop-slot.invariant.2 (sym c.meet.ensures ∙ c.if-not-meet.false-raw))
 
 pub returns : goal.returns
 returns c =

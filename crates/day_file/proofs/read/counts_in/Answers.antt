@@ -5,19 +5,19 @@ use Rattle.day_file.proofs.read.counts_in.Goals as goal
 
 pub overflow_cast-result : goal.overflow_cast-result
 overflow_cast-result c =
-    omega (arith, c.shared_slice_known-2-1.given 5)
+    omega (arith, c.type_inv.file 5)
 
 pub overflow_cast-result-2 : goal.overflow_cast-result-2
 overflow_cast-result-2 c =
-    omega (arith, c.shared_slice_known-3-1.given 6)
+    omega (arith, c.type_inv.file 6)
 
 pub overflow_cast-result-3 : goal.overflow_cast-result-3
 overflow_cast-result-3 c =
-    omega (arith, c.shared_slice_known-4-1.given 7)
+    omega (arith, c.type_inv.file 7)
 
 pub overflow_cast-result-4 : goal.overflow_cast-result-4
 overflow_cast-result-4 c =
-    omega (arith, c.shared_slice_known-5-1.given 8)
+    omega (arith, c.type_inv.file 8)
 
 pub returns : goal.returns
 returns c =

@@ -1,5 +1,4 @@
 -- The pools first, then the file; then its counts and its lists.
-use borrow.Author.Tests.{not-true, not-false}
 use Rattle.day_rows.specs.Check.{checked_tells}
 use Rattle.day_file.specs.FileDay.{parts}
 use Rattle.day_file.proofs.ReadLaws.{read_short, read-refused, read_head, read-good, counts-keep, counts_end}
@@ -9,25 +8,25 @@ use Rattle.day_file.proofs.read.read_day.Goals as goal
 pub returns-then-not-pools_full : goal.returns-then-not-pools_full
 returns-then-not-pools_full c =
     let s = c in
-    read_short _ (parts s.args.mins.now s.args.maxs.now s.args.optional.now s.args.levels.now s.args.preferences.now s.args.rows.now) c.pools_full.ensures (not-true _ c.if-not-pools_full.true)
+    read_short _ (parts s.args.mins.now s.args.maxs.now s.args.optional.now s.args.levels.now s.args.preferences.now s.args.rows.now) c.pools_full.ensures (c.if-not-pools_full.true-raw)
 
 pub returns-in-Refused : goal.returns-in-Refused
 returns-in-Refused c =
     let s = c in
-    read-refused _ (parts s.args.mins.now s.args.maxs.now s.args.optional.now s.args.levels.now s.args.preferences.now s.args.rows.now) c.pools_full.ensures (not-false _ c.if-not-pools_full.false) c.judge_file-judged.ensures (ap checked_tells c.judged-1.given.1)
+    read-refused _ (parts s.args.mins.now s.args.maxs.now s.args.optional.now s.args.levels.now s.args.preferences.now s.args.rows.now) c.pools_full.ensures (c.if-not-pools_full.false-raw) c.judge_file-judged.ensures (ap checked_tells c.in-Refused.is)
 
 pub counts_in-counts-requires : goal.counts_in-counts-requires
 counts_in-counts-requires c =
     let s = c in
-    (read_head _ (parts s.args.mins.now s.args.maxs.now s.args.optional.now s.args.levels.now s.args.preferences.now s.args.rows.now) c.pools_full.ensures (not-false _ c.if-not-pools_full.false) c.judge_file-judged.ensures (ap checked_tells c.enum_told-1.given.1)).long
+    (read_head _ (parts s.args.mins.now s.args.maxs.now s.args.optional.now s.args.levels.now s.args.preferences.now s.args.rows.now) c.pools_full.ensures (c.if-not-pools_full.false-raw) c.judge_file-judged.ensures (ap checked_tells c.in_default.is)).long
 
 pub fill_pools-requires : goal.fill_pools-requires
 fill_pools-requires c =
     let s = c in
-    let h = read_head _ (parts s.args.mins.now s.args.maxs.now s.args.optional.now s.args.levels.now s.args.preferences.now s.args.rows.now) c.pools_full.ensures (not-false _ c.if-not-pools_full.false) c.judge_file-judged.ensures (ap checked_tells c.enum_told-1.given.1) in
-    (counts-keep _ h c.counts_in-counts.ensures, (counts_end _ h c.counts_in-counts.ensures, sym c.pools_full.ensures ∙ not-false _ c.if-not-pools_full.false))
+    let h = read_head _ (parts s.args.mins.now s.args.maxs.now s.args.optional.now s.args.levels.now s.args.preferences.now s.args.rows.now) c.pools_full.ensures (c.if-not-pools_full.false-raw) c.judge_file-judged.ensures (ap checked_tells c.in_default.is) in
+    (counts-keep _ h c.counts_in-counts.ensures, (counts_end _ h c.counts_in-counts.ensures, sym c.pools_full.ensures ∙ c.if-not-pools_full.false-raw))
 
 pub returns : goal.returns
 returns c =
     let s = c in
-    read-good _ (parts s.args.mins.now s.args.maxs.now s.args.optional.now s.args.levels.now s.args.preferences.now s.args.rows.now) c.pools_full.ensures (not-false _ c.if-not-pools_full.false) c.judge_file-judged.ensures (ap checked_tells c.enum_told-1.given.1) c.counts_in-counts.ensures c.fill_pools.ensures
+    read-good _ (parts s.args.mins.now s.args.maxs.now s.args.optional.now s.args.levels.now s.args.preferences.now s.args.rows.now) c.pools_full.ensures (c.if-not-pools_full.false-raw) c.judge_file-judged.ensures (ap checked_tells c.in_default.is) c.counts_in-counts.ensures c.fill_pools.ensures

@@ -1,7 +1,6 @@
 use mathlib.Core.Path.{sym, ◌∙◌}
 use Prim.Native.Nat.{◌-◌}
 use borrow.Author.Rules.{rules}
-use borrow.Author.Tests.{not-true, not-false}
 use Rattle.day_rows.proofs.CheckLaws.{from_start, from_next, stops_at, none_bad}
 use Rattle.day_rows.proofs.check.check_each_row.Goals as goal
 
@@ -11,11 +10,11 @@ loop-i-init c =
 
 pub returns-then-not-row_keeps : goal.returns-then-not-row_keeps
 returns-then-not-row_keeps c =
-    stops_at _ _ _ _ c.loop-i-test.true c.loop-i.invariant.1 (sym c.row_keeps.ensures ∙ not-true _ c.if-not-row_keeps.true)
+    stops_at _ _ _ _ c.loop-i-test.true c.loop-i.invariant.1 (sym c.row_keeps.ensures ∙ c.if-not-row_keeps.true-raw)
 
 pub loop-i-preserved : goal.loop-i-preserved
 loop-i-preserved c =
-    (search rules, from_next _ _ _ _ c.loop-i-test.true c.loop-i.invariant.1 (sym c.row_keeps.ensures ∙ not-false _ c.if-not-row_keeps.false))
+    (search rules, from_next _ _ _ _ c.loop-i-test.true c.loop-i.invariant.1 (sym c.row_keeps.ensures ∙ c.if-not-row_keeps.false-raw))
 
 pub returns : goal.returns
 returns c =

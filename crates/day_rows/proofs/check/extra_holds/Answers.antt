@@ -28,12 +28,12 @@ rest name.Op value counts k h = absurd (miss (0 ∷ 1 ∷ 2 ∷ 3 ∷ 4 ∷ []) 
 
 pub returns-in-Offset : goal.returns-in-Offset
 returns-in-Offset c =
-    rw c.enum_told-1.given.1 (offset-range _ (search rules))
+    rw c.in-Offset.is (offset-range _ (search rules))
 
 pub returns-in-Op : goal.returns-in-Op
 returns-in-Op c =
-    rw c.enum_told-in-Op-1.given.1 c.is_op.ensures
+    rw c.in-Op.is c.is_op.ensures
 
 pub returns-in_default : goal.returns-in_default
 returns-in_default c =
-    rest c.args.names c.args.value c.args.counts c.in_default.keys3 c.requires
+    rest c.args.names c.args.value c.args.counts c.in_default.in_default-own.keys3 c.requires

@@ -26,12 +26,12 @@ rest name.Op value counts k h = absurd (false≢true h)
 
 pub returns-in-Choice : goal.returns-in-Choice
 returns-in-Choice c =
-    rw c.enum_told-1.given.1
+    rw c.in-Choice.is
 
 pub returns-in-Slot : goal.returns-in-Slot
 returns-in-Slot c =
-    rw c.enum_told-in-Slot-1.given.1
+    rw c.in-Slot.is
 
 pub returns-in_default : goal.returns-in_default
 returns-in_default c =
-    rest c.args.names c.args.value c.args.counts c.in_default.keys3 c.requires
+    rest c.args.names c.args.value c.args.counts c.in_default.in_default-own.keys3 c.requires

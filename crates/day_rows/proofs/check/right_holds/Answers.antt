@@ -27,16 +27,16 @@ rest name.Op value counts k h l = absurd (false≢true h)
 
 pub returns-in-Choice : goal.returns-in-Choice
 returns-in-Choice c =
-    rw c.enum_told-1.given.1
+    rw c.in-Choice.is
 
 pub returns-in-Slot : goal.returns-in-Slot
 returns-in-Slot c =
-    rw c.enum_told-in-Slot-1.given.1
+    rw c.in-Slot.is
 
 pub returns-in-Chooser : goal.returns-in-Chooser
 returns-in-Chooser c =
-    rw c.enum_told-in-Chooser-1.given.1
+    rw c.in-Chooser.is
 
 pub returns-in_default : goal.returns-in_default
 returns-in_default c =
-    rest c.args.names c.args.value c.args.counts c.in_default.keys4 c.requires (omega arith)
+    rest c.args.names c.args.value c.args.counts c.in_default.in_default-own.keys4 c.requires (omega arith)

@@ -5,27 +5,27 @@ use Rattle.day_rows.proofs.check.row_keeps.Goals as goal
 
 pub keeps_line-requires : goal.keeps_line-requires
 keeps_line-requires c =
-    c.of.ensures ∙ ap columns_of (sym c.in-1.keys1 ∙ c.kind_of-kind.ensures)
+    c.of.ensures ∙ ap columns_of (sym c.in-1.is ∙ c.kind_of-kind.ensures)
 
 pub keeps_line-requires-in-2 : goal.keeps_line-requires-in-2
 keeps_line-requires-in-2 c =
-    c.of-in-2.ensures ∙ ap columns_of (sym c.in-2.keys2 ∙ c.kind_of-kind.ensures)
+    c.of-in-2.ensures ∙ ap columns_of (sym c.in-2.is ∙ c.kind_of-kind.ensures)
 
 pub keeps_line-requires-in-3 : goal.keeps_line-requires-in-3
 keeps_line-requires-in-3 c =
-    c.of-in-3.ensures ∙ ap columns_of (sym c.in-3.keys3 ∙ c.kind_of-kind.ensures)
+    c.of-in-3.ensures ∙ ap columns_of (sym c.in-3.is ∙ c.kind_of-kind.ensures)
 
 pub keeps_line-requires-in-4 : goal.keeps_line-requires-in-4
 keeps_line-requires-in-4 c =
-    c.of-in-4.ensures ∙ ap columns_of (sym c.in-4.keys4 ∙ c.kind_of-kind.ensures)
+    c.of-in-4.ensures ∙ ap columns_of (sym c.in-4.is ∙ c.kind_of-kind.ensures)
 
 pub keeps_line-requires-in-5 : goal.keeps_line-requires-in-5
 keeps_line-requires-in-5 c =
-    c.of-in-5.ensures ∙ ap columns_of (sym c.in-5.keys5 ∙ c.kind_of-kind.ensures)
+    c.of-in-5.ensures ∙ ap columns_of (sym c.in-5.is ∙ c.kind_of-kind.ensures)
 
 pub keeps_line-requires-in-6 : goal.keeps_line-requires-in-6
 keeps_line-requires-in-6 c =
-    c.of-in-6.ensures ∙ ap columns_of (sym c.in-6.keys6 ∙ c.kind_of-kind.ensures)
+    c.of-in-6.ensures ∙ ap columns_of (sym c.in-6.is ∙ c.kind_of-kind.ensures)
 
 pub keeps_line-requires-in_default : goal.keeps_line-requires-in_default
 keeps_line-requires-in_default c =
@@ -33,7 +33,7 @@ keeps_line-requires-in_default c =
 
 pub returns-in-1 : goal.returns-in-1
 returns-in-1 c =
-    c.Keeps-line.ensures
+    c.keeps_line.ensures
 
 pub returns-in-2 : goal.returns-in-2
 returns-in-2 c =

@@ -6,7 +6,7 @@ use Rattle.day_write.proofs.put.put_choice.Goals as goal
 
 pub shape_of-pool : goal.shape_of-pool
 shape_of-pool c =
-    simp length-set (c.put_word-2.auto.0 ∙ c.put_word.auto.0)
+    simp length-set (c.put_word-2.auto.pool ∙ c.put_word.auto.pool)
 
 pub returns : goal.returns
 returns c =

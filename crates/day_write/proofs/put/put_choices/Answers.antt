@@ -15,7 +15,7 @@ loop-i-init c =
 pub loop-i-preserved : goal.loop-i-preserved
 loop-i-preserved c =
     let s = c in
-    (omega arith, c.put_choice.auto.0 ∙ c.loop-i.invariant.1, sets_join 5 (choice_bytes s.args.mins.now s.args.maxs.now s.args.optional.now) (length-choice s.args.mins.now s.args.maxs.now s.args.optional.now) _ _ _ c.loop-i.invariant.2 (choice-is _ _ _ _ _ _ c.put_choice.ensures))
+    (omega arith, c.put_choice.auto.pool ∙ c.loop-i.invariant.1, sets_join 5 (choice_bytes s.args.mins.now s.args.maxs.now s.args.optional.now) (length-choice s.args.mins.now s.args.maxs.now s.args.optional.now) _ _ _ c.loop-i.invariant.2 (choice-is _ _ _ _ _ _ c.put_choice.ensures))
 
 pub returns : goal.returns
 returns c =

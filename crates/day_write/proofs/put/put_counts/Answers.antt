@@ -47,4 +47,4 @@ put_word-requires c =
 
 pub shape_of-pool : goal.shape_of-pool
 shape_of-pool c =
-    c.put_word.auto.0 ∙ simp length-set
+    c.put_word.auto.pool ∙ simp length-set

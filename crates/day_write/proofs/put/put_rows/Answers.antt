@@ -19,7 +19,7 @@ put_row-requires c =
 pub loop-i-preserved : goal.loop-i-preserved
 loop-i-preserved c =
     let s = c in
-    (omega arith, c.put_row.auto.0 ∙ c.loop-i.invariant.1, sets_join 6 (λ k. row_bytes (get_or s.args.rows.now k 0)) (λ k. length-row (get_or s.args.rows.now k 0)) _ _ _ c.loop-i.invariant.2 c.put_row.ensures)
+    (omega arith, c.put_row.auto.pool ∙ c.loop-i.invariant.1, sets_join 6 (λ k. row_bytes (get_or s.args.rows.now k 0)) (λ k. length-row (get_or s.args.rows.now k 0)) _ _ _ c.loop-i.invariant.2 c.put_row.ensures)
 
 pub returns : goal.returns
 returns c =

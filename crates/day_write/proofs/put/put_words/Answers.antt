@@ -15,7 +15,7 @@ loop-i-init c =
 pub loop-i-preserved : goal.loop-i-preserved
 loop-i-preserved c =
     let s = c in
-    (omega arith, c.put_word.auto.0 ∙ c.loop-i.invariant.1, sets_join 2 (λ k. word (get_or s.args.words.now k 0)) (λ k. length-word (get_or s.args.words.now k 0)) _ _ _ c.loop-i.invariant.2 c.put_word.ensures)
+    (omega arith, c.put_word.auto.pool ∙ c.loop-i.invariant.1, sets_join 2 (λ k. word (get_or s.args.words.now k 0)) (λ k. length-word (get_or s.args.words.now k 0)) _ _ _ c.loop-i.invariant.2 c.put_word.ensures)
 
 pub returns : goal.returns
 returns c =

@@ -23,11 +23,11 @@ put_word-requires c =
 
 pub put_word-requires-2 : goal.put_word-requires-2
 put_word-requires-2 c =
-    omega (arith, simp length-set at c.put_word.auto.0)
+    omega (arith, simp length-set at c.put_word.auto.pool)
 
 pub shape_of-pool : goal.shape_of-pool
 shape_of-pool c =
-    c.put_word-2.auto.0 ∙ c.put_word.auto.0 ∙ simp length-set
+    c.put_word-2.auto.pool ∙ c.put_word.auto.pool ∙ simp length-set
 
 pub returns : goal.returns
 returns c =

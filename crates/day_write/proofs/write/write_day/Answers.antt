@@ -7,15 +7,15 @@ use Rattle.day_write.proofs.write.write_day.Goals as goal
 
 pub returns-in-Refused : goal.returns-in-Refused
 returns-in-Refused c =
-    write_refused _ _ c.judge_day-judged.ensures (ap checked_tells c.judged-1.given.1)
+    write_refused _ _ c.judge_day-judged.ensures (ap checked_tells c.in-Refused.is)
 
 pub put_day-requires : goal.put_day-requires
 put_day-requires c =
     let s = c in
     let d = (day s.args.counts (parts s.args.mins.now s.args.maxs.now s.args.optional.now s.args.levels.now s.args.preferences.now s.args.rows.now)) in
-    let g = write_asks d s.args.pool.now c.judge_day-judged.ensures (ap checked_tells c.enum_told-1.given.1) in
+    let g = write_asks d s.args.pool.now c.judge_day-judged.ensures (ap checked_tells c.in_default.is) in
     (g.counts-good, (g.lengths-good, (rows-good d g.lists_are_good, g.room-good)))
 
 pub returns : goal.returns
 returns c =
-    write_good _ _ c.judge_day-judged.ensures (ap checked_tells c.enum_told-1.given.1) c.put_day.ensures
+    write_good _ _ c.judge_day-judged.ensures (ap checked_tells c.in_default.is) c.put_day.ensures

@@ -9,7 +9,7 @@ use Rattle.list_all.proofs.plans.+list_choice_list_place.Goals as goal
 
 pub shape_of-buffer-then-choice-plan : goal.shape_of-buffer-then-choice-plan
 shape_of-buffer-then-choice-plan t c =
-    c.list_plan.auto.1.1.1.1.1.1.1.0
+    c.list_plan.auto.buffer
 
 pub returns-then-choice-plan : goal.returns-then-choice-plan
 returns-then-choice-plan t c =
@@ -34,7 +34,7 @@ list_place-requires t c =
 
 pub shape_of-buffer : goal.shape_of-buffer
 shape_of-buffer t c =
-    c.list_place.auto.1.1.1.1.1.1.1.1.1.1.0
+    c.list_place.auto.buffer
 
 pub returns : goal.returns
 returns t c =
@@ -67,7 +67,7 @@ overflow_sub-left t c =
 
 pub shape_of-buffer-then-next-eq0 : goal.shape_of-buffer-then-next-eq0
 shape_of-buffer-then-next-eq0 t c =
-    c.list_choice.auto.1.1.1.1.1.1.1.1.1.0
+    c.list_choice.auto.buffer
 
 pub returns-then-next-eq0 : goal.returns-then-next-eq0
 returns-then-next-eq0 t c =
@@ -77,11 +77,11 @@ returns-then-next-eq0 t c =
 pub list_place-requires : goal.list_place-requires
 list_place-requires t c =
     let s = c in
-    (to_next t (length s.args.mins.now.now) s.args.choice s.args.left _ s.requires.0 (fewer s.args.choice s.args.left s.requires.1.0 s.requires.1.1 (place-told _ _ s.requires.1.1.some c.place_at-place.ensures) c.take_place.ensures.0 c.take_place.ensures.1 c.list_choice.ensures c.leave_place.ensures (open_told _ _ _ _ _ _ s.requires.1.0.shaped.few-slots _ c.next_open-next.ensures)), rest_requires s.args.choice s.args.left s.requires.1.0 s.requires.1.1 (place-told _ _ s.requires.1.1.some c.place_at-place.ensures) c.take_place.ensures.0 c.take_place.ensures.1 c.list_choice.ensures c.leave_place.ensures (open_told _ _ _ _ _ _ s.requires.1.0.shaped.few-slots _ c.next_open-next.ensures) c.list_choice.auto.1.1.1.1.1.1.1.1.1.0 c.if-next-eq0.false)
+    (to_next t (length s.args.mins.now.now) s.args.choice s.args.left _ s.requires.0 (fewer s.args.choice s.args.left s.requires.1.0 s.requires.1.1 (place-told _ _ s.requires.1.1.some c.place_at-place.ensures) c.take_place.ensures.0 c.take_place.ensures.1 c.list_choice.ensures c.leave_place.ensures (open_told _ _ _ _ _ _ s.requires.1.0.shaped.few-slots _ c.next_open-next.ensures)), rest_requires s.args.choice s.args.left s.requires.1.0 s.requires.1.1 (place-told _ _ s.requires.1.1.some c.place_at-place.ensures) c.take_place.ensures.0 c.take_place.ensures.1 c.list_choice.ensures c.leave_place.ensures (open_told _ _ _ _ _ _ s.requires.1.0.shaped.few-slots _ c.next_open-next.ensures) c.list_choice.auto.buffer c.if-next-eq0.false)
 
 pub shape_of-buffer : goal.shape_of-buffer
 shape_of-buffer t c =
-    c.list_place.auto.1.1.1.1.1.1.1.1.1.1.0 ∙ c.list_choice.auto.1.1.1.1.1.1.1.1.1.0
+    c.list_place.auto.buffer ∙ c.list_choice.auto.buffer
 
 pub returns : goal.returns
 returns t c =

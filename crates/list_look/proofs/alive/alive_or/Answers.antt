@@ -1,13 +1,12 @@
 -- A dead start has no places, another one keeps its domains.
 use mathlib.Core.Path.{sym, ◌∙◌}
-use borrow.Author.Tests.{not-true, not-false}
 use Rattle.list_look.proofs.StepLaws.{ends, goes_on}
 use Rattle.list_look.proofs.alive.alive_or.Goals as goal
 
 pub returns-then-not-is_alive : goal.returns-then-not-is_alive
 returns-then-not-is_alive c =
-    c.no_places.ensures ∙ ends _ _ (sym c.is_alive.ensures ∙ not-true _ c.if-not-is_alive.true)
+    c.no_places.ensures ∙ ends _ _ (sym c.is_alive.ensures ∙ c.if-not-is_alive.true-raw)
 
 pub returns : goal.returns
 returns c =
-    goes_on _ _ (sym c.is_alive.ensures ∙ not-false _ c.if-not-is_alive.false)
+    goes_on _ _ (sym c.is_alive.ensures ∙ c.if-not-is_alive.false-raw)

@@ -1,5 +1,4 @@
 -- A slot that lacks something, fits, and leaves enough.
-use borrow.Author.Tests.{not-true, not-false}
 use Rattle.list_look.proofs.SlotLaws.{open_filled, open_full, open_fitting}
 use Rattle.list_look.proofs.open.slot_open.Goals as goal
 
@@ -9,8 +8,8 @@ returns-then-choosers-slot_max c =
 
 pub returns-then-not-slot_fits : goal.returns-then-not-slot_fits
 returns-then-not-slot_fits c =
-    open_full _ _ _ _ _ _ _ _ _ _ _ c.slot_fits.ensures (not-true _ c.if-not-slot_fits.true)
+    open_full _ _ _ _ _ _ _ _ _ _ _ c.slot_fits.ensures (c.if-not-slot_fits.true-raw)
 
 pub returns : goal.returns
 returns c =
-    open_fitting _ _ _ _ _ _ _ _ _ _ _ c.slot_fits.ensures (not-false _ c.if-not-slot_fits.false) c.leaves_enough.ensures
+    open_fitting _ _ _ _ _ _ _ _ _ _ _ c.slot_fits.ensures (c.if-not-slot_fits.false-raw) c.leaves_enough.ensures

@@ -1,26 +1,25 @@
 -- Each refusal of the listing in its turn.
 use mathlib.Core.Path.{sym, ◌∙◌}
 use Rattle.day_rows.proofs.Outcomes.{told-by}
-use borrow.Author.Tests.{not-true, not-false}
 use Rattle.list_nodes.proofs.JudgeLaws.{judge_count, judge_length, judge_row, judge_flag, judge_good}
 use Rattle.list_nodes.proofs.judge.judge.Goals as goal
 
 pub returns-then-not-counts_in_range : goal.returns-then-not-counts_in_range
 returns-then-not-counts_in_range c =
-    judge_count _ _ _ (sym c.counts_in_range.ensures ∙ not-true _ c.if-not-counts_in_range.true)
+    judge_count _ _ _ (sym c.counts_in_range.ensures ∙ c.if-not-counts_in_range.true-raw)
 
 pub returns-then-not-lengths_fit : goal.returns-then-not-lengths_fit
 returns-then-not-lengths_fit c =
-    judge_length _ _ _ (sym c.counts_in_range.ensures ∙ not-false _ c.if-not-counts_in_range.false) (sym c.lengths_fit.ensures ∙ not-true _ c.if-not-lengths_fit.true)
+    judge_length _ _ _ (sym c.counts_in_range.ensures ∙ c.if-not-counts_in_range.false-raw) (sym c.lengths_fit.ensures ∙ c.if-not-lengths_fit.true-raw)
 
 pub returns-in-Refused : goal.returns-in-Refused
 returns-in-Refused c =
-    judge_row _ _ _ (sym c.counts_in_range.ensures ∙ not-false _ c.if-not-counts_in_range.false) (sym c.lengths_fit.ensures ∙ not-false _ c.if-not-lengths_fit.false) (told-by c.check_each_row-checked.ensures c.checked-1.given.1)
+    judge_row _ _ _ (sym c.counts_in_range.ensures ∙ c.if-not-counts_in_range.false-raw) (sym c.lengths_fit.ensures ∙ c.if-not-lengths_fit.false-raw) (told-by c.check_each_row-checked.ensures c.in-Refused.is)
 
 pub returns-then-not-flags_fit : goal.returns-then-not-flags_fit
 returns-then-not-flags_fit c =
-    judge_flag _ _ _ (sym c.counts_in_range.ensures ∙ not-false _ c.if-not-counts_in_range.false) (sym c.lengths_fit.ensures ∙ not-false _ c.if-not-lengths_fit.false) (told-by c.check_each_row-checked.ensures c.enum_told-1.given.1) (sym c.flags_fit.ensures ∙ not-true _ c.if-not-flags_fit.true)
+    judge_flag _ _ _ (sym c.counts_in_range.ensures ∙ c.if-not-counts_in_range.false-raw) (sym c.lengths_fit.ensures ∙ c.if-not-lengths_fit.false-raw) (told-by c.check_each_row-checked.ensures c.in_default.is) (sym c.flags_fit.ensures ∙ c.if-not-flags_fit.true-raw)
 
 pub returns : goal.returns
 returns c =
-    judge_good _ _ _ (sym c.counts_in_range.ensures ∙ not-false _ c.if-not-counts_in_range.false) (sym c.lengths_fit.ensures ∙ not-false _ c.if-not-lengths_fit.false) (told-by c.check_each_row-checked.ensures c.enum_told-1.given.1) (sym c.flags_fit.ensures ∙ not-false _ c.if-not-flags_fit.false)
+    judge_good _ _ _ (sym c.counts_in_range.ensures ∙ c.if-not-counts_in_range.false-raw) (sym c.lengths_fit.ensures ∙ c.if-not-lengths_fit.false-raw) (told-by c.check_each_row-checked.ensures c.in_default.is) (sym c.flags_fit.ensures ∙ c.if-not-flags_fit.false-raw)

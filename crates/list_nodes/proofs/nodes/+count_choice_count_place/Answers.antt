@@ -1,5 +1,4 @@
 use native.Mathlib.Omega.{arith}
-use borrow.Author.Tests.{not-true, not-false}
 use lib.Arith.{lt_of_le-ne}
 use Rattle.list_nodes.proofs.PlaceLaws.{walks_next, walks-slot, sums-back}
 use Rattle.list_nodes.proofs.CountLaws.{none_left, some-node, counted-full, counted-on, counted_none, counted_omission, counted-over, counted-ends, counted-slot}
@@ -97,7 +96,7 @@ count_choice-requires-2 t c =
 pub returns-then-not-count_choice : goal.returns-then-not-count_choice
 returns-then-not-count_choice t c =
     let s = c in
-    counted-ends _ _ _ _ _ _ _ _ s.requires.1.1 c.if-slot-slots.false c.wide_word.ensures.0 c.if-choosers-after.false c.count_choice-2.ensures (not-true _ c.if-not-count_choice.true)
+    counted-ends _ _ _ _ _ _ _ _ s.requires.1.1 c.if-slot-slots.false c.wide_word.ensures.0 c.if-choosers-after.false c.count_choice-2.ensures (c.if-not-count_choice.true-raw)
 
 pub bounds-slot_min-slot-3 : goal.bounds-slot_min-slot-3
 bounds-slot_min-slot-3 t c =
@@ -110,13 +109,13 @@ count_place-requires-2 t c =
     let s = c in
     let w = s.requires.1.0 in
     let h = lt_of_le-ne s.requires.1.1 c.if-slot-slots.false in
-    let b = sums-back {sums = s.args.slot_min.now} s.args.slot (get_or s.args.slot_min.now s.args.slot 0 + c.wide_word.result) (c.count_choice-2.ensures.kept (not-false _ c.if-not-count_choice.false)) in
+    let b = sums-back {sums = s.args.slot_min.now} s.args.slot (get_or s.args.slot_min.now s.args.slot 0 + c.wide_word.result) (c.count_choice-2.ensures.kept (c.if-not-count_choice.false-raw)) in
     (omega (arith, s.requires.0, h), (rw b w, omega (arith, h)))
 
 pub returns : goal.returns
 returns t c =
     let s = c in
-    counted-slot _ _ _ _ _ _ _ _ s.requires.1.1 c.if-slot-slots.false c.wide_word.ensures.0 c.if-choosers-after.false c.count_choice-2.ensures (not-false _ c.if-not-count_choice.false) c.count_place-2.ensures
+    counted-slot _ _ _ _ _ _ _ _ s.requires.1.1 c.if-slot-slots.false c.wide_word.ensures.0 c.if-choosers-after.false c.count_choice-2.ensures (c.if-not-count_choice.false-raw) c.count_place-2.ensures
 
 -- UNMATCHED bounds-1-if2
 -- bounds-1-if2 t c =

@@ -1,5 +1,4 @@
 -- From the empty start the budget holds for the nodes, or it doesn't.
-use borrow.Author.Tests.{not-true, not-false}
 use Rattle.list_nodes.proofs.NodeLaws.{count_walks, counted-over, counted-within}
 use Rattle.list_nodes.proofs.nodes.count_all.Goals as goal
 
@@ -8,8 +7,8 @@ count_choice-requires c = count_walks _ c.requires c.figures-slot_min.ensures
 
 pub returns-then-not-count_choice : goal.returns-then-not-count_choice
 returns-then-not-count_choice c =
-    counted-over _ c.requires c.figures-slot_min.ensures c.count_choice.ensures (not-true _ c.if-not-count_choice.true)
+    counted-over _ c.requires c.figures-slot_min.ensures c.count_choice.ensures (c.if-not-count_choice.true-raw)
 
 pub returns : goal.returns
 returns c =
-    counted-within _ c.requires c.figures-slot_min.ensures c.count_choice.ensures (not-false _ c.if-not-count_choice.false) c.less_u64.ensures
+    counted-within _ c.requires c.figures-slot_min.ensures c.count_choice.ensures (c.if-not-count_choice.false-raw) c.less_u64.ensures

@@ -5,21 +5,21 @@ use Rattle.list_rule_counts.proofs.limits.raised.Goals as goal
 
 pub returns-in-32769 : goal.returns-in-32769
 returns-in-32769 c =
-    c.larger.ensures ∙ raised_eq _ _ _ c.in-32769.keys1
+    c.larger.ensures ∙ raised_eq _ _ _ c.in-32769.is
 
 pub returns-in-32771 : goal.returns-in-32771
 returns-in-32771 c =
-    c.larger-in-32771.ensures ∙ raised_geq _ _ _ c.in-32771.keys2
+    c.larger-in-32771.ensures ∙ raised_geq _ _ _ c.in-32771.is
 
 pub returns-in-32770 : goal.returns-in-32770
 returns-in-32770 c =
-    c.larger-in-32770.ensures ∙ raised_gt _ _ _ _ c.past.ensures c.in-32770.keys3
+    c.larger-in-32770.ensures ∙ raised_gt _ _ _ _ c.past.ensures c.in-32770.is
 
 pub returns-in-32767 : goal.returns-in-32767
 returns-in-32767 c =
-    c.other_than.ensures ∙ raised_neq _ _ _ c.in-32767.keys4
+    c.other_than.ensures ∙ raised_neq _ _ _ c.in-32767.is
 
 pub returns-in_default : goal.returns-in_default
 returns-in_default c =
-    let r = c.in_default.rest in
+    let r = c.in_default.in_default-own.rest in
     raised_not _ _ _ r.0.0.0.1 r.0.0.1 r.0.1 r.1

@@ -1,12 +1,11 @@
 -- A choice that isn't free keeps its domain.
-use borrow.Author.Tests.{not-true, not-false}
 use Rattle.list_rule_counts.proofs.WantLaws.{kept-all, kept-some}
 use Rattle.list_rule_counts.proofs.wants.kept_of.Goals as goal
 
 pub returns-then-not-free : goal.returns-then-not-free
 returns-then-not-free c =
-    kept-all _ _ _ (not-true c.args.free c.if-not-free.true)
+    kept-all _ _ _ (c.if-not-free.true-raw)
 
 pub returns : goal.returns
 returns c =
-    kept-some _ _ _ _ (not-false c.args.free c.if-not-free.false) c.both.ensures
+    kept-some _ _ _ _ (c.if-not-free.false-raw) c.both.ensures

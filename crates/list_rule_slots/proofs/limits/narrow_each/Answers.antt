@@ -11,13 +11,13 @@ slot_counts-slot_counts-requires c =
 
 pub is_slack-requires : goal.is_slack-requires
 is_slack-requires c =
-    let e = c.Slot-Counts.ensures in
+    let e = c.slot_counts-slot_counts.ensures in
     (omega (arith, e.0, must_le c.args.counts.choices c.args.domains.now c.args.row.left, c.requires.0), omega (arith, e.1, may_le c.args.counts.choices c.args.domains.now c.args.row.left, c.requires.0))
 
 pub returns-then-is_slack : goal.returns-then-is_slack
 returns-then-is_slack c =
     let p = c.requires in
-    let s = c.Slot-Counts.ensures in
+    let s = c.slot_counts-slot_counts.ensures in
     limit_spared _ _ _ _ _ _ p.0 p.1 p.2 s.0 s.1 s.2 c.is_slack.ensures c.if-is_slack.true
 
 pub loop-choice-init : goal.loop-choice-init
@@ -30,7 +30,7 @@ bounds-domains-choice c =
 
 pub limit_leaves-requires : goal.limit_leaves-requires
 limit_leaves-requires c =
-    let e = c.Slot-Counts.ensures in
+    let e = c.slot_counts-slot_counts.ensures in
     (omega (arith, e.0, must_le c.args.counts.choices c.args.domains.now c.args.row.left, c.requires.0), omega (arith, e.1, may_le c.args.counts.choices c.args.domains.now c.args.row.left, c.requires.0))
 
 pub loop-choice-preserved : goal.loop-choice-preserved
@@ -40,6 +40,6 @@ loop-choice-preserved c =
 pub returns : goal.returns
 returns c =
     let p = c.requires in
-    let s = c.Slot-Counts.ensures in
+    let s = c.slot_counts-slot_counts.ensures in
     let e : c.loop-choice.choice ≡ c.args.counts.choices = search rules in
     limit-done _ _ _ _ _ _ p.0 p.1 p.2 s.0 s.1 (rw e at c.loop-choice.invariant.1)

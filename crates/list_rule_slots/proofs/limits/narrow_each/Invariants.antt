@@ -8,7 +8,7 @@ use Rattle.list_rule_slots.proofs.limits.narrow_each.Given as goal
 
 abbrev pub invariant-loop-choice : goal.invariant-loop-choice
 invariant-loop-choice l =
-    (l.choice ≤ l.counts.choices) × (l.domains ≡ each_below l.choice (limit_step l.row l.Slot-Counts.must l.Slot-Counts.may) l.initial.domains)
+    (l.choice ≤ l.counts.choices) × (l.domains ≡ each_below l.choice (limit_step l.row l.slot_counts.must l.slot_counts.may) l.initial.domains)
 
 abbrev pub decreases-loop-choice : goal.decreases-loop-choice
 decreases-loop-choice l =

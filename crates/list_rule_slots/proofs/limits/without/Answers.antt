@@ -1,12 +1,11 @@
 -- Nothing is taken where the test fails, and none from none.
-use borrow.Author.Tests.{not-true, not-false}
 use Rattle.list_rule_slots.proofs.StepLaws.{less_none, less_one}
 use Rattle.list_rule_slots.proofs.limits.without.Goals as goal
 
 pub returns-then-not-test : goal.returns-then-not-test
 returns-then-not-test c =
-    less_none _ _ (not-true _ c.if-not-test.true)
+    less_none _ _ (c.if-not-test.true-raw)
 
 pub returns : goal.returns
 returns c =
-    less_one _ _ (not-false _ c.if-not-test.false)
+    less_one _ _ (c.if-not-test.false-raw)

@@ -2,7 +2,6 @@ use borrow.Author.Rules.{rules}
 use mathlib.Core.Path.{◌≡◌, sym, ◌∙◌}
 use mathlib.Core.Bool.{true}
 use Prim.Native.Nat.{◌-◌}
-use borrow.Author.Tests.{not-true, not-false}
 use Rattle.base_lists.proofs.Below.{all_more}
 use Rattle.list_rule_slots.proofs.SumLaws.{order-none, order-fails, order-done}
 use Rattle.list_rule_slots.proofs.sums.in_order.Goals as goal
@@ -13,11 +12,11 @@ loop-slot-init c =
 
 pub returns-then-not-between : goal.returns-then-not-between
 returns-then-not-between c =
-    order-fails _ _ _ _ _ c.loop-slot-test.true c.between.ensures (not-true _ c.if-not-between.true)
+    order-fails _ _ _ _ _ c.loop-slot-test.true c.between.ensures (c.if-not-between.true-raw)
 
 pub loop-slot-preserved : goal.loop-slot-preserved
 loop-slot-preserved c =
-    (search rules, all_more _ _ c.loop-slot.invariant.1 (sym c.between.ensures ∙ not-false _ c.if-not-between.false))
+    (search rules, all_more _ _ c.loop-slot.invariant.1 (sym c.between.ensures ∙ c.if-not-between.false-raw))
 
 pub returns : goal.returns
 returns c =

@@ -1,5 +1,4 @@
 use Rattle.std.proofs.Common.{◌-◌, [], length, refl, ◌∙◌}
-use borrow.Author.Tests.{not-true, not-false}
 use Rattle.list_nodes.proofs.Falls.{to_choice, to_next, next-choice}
 use Rattle.list_walk.proofs.CallLaws.{to_open, open_place}
 use Rattle.list_walk.proofs.StandLaws.{stood_as, left_as, passed_as}
@@ -16,11 +15,11 @@ overflow_sub-turns t c =
 
 pub shape_of-buffer-then-choice-plan : goal.shape_of-buffer-then-choice-plan
 shape_of-buffer-then-choice-plan t c =
-    c.List-full.auto.1.1.1.1.1.0
+    c.list_full.auto.buffer
 
 pub returns-then-choice-plan : goal.returns-then-choice-plan
 returns-then-choice-plan t c =
-    let p = c.List-full.ensures in
+    let p = c.list_full.ensures in
     walked-full _ _ c.requires.1 c.if-turns-eq0.false c.if-choice-plan.true p.2 p.0 p.1 c.goes_on.ensures
 
 pub walk_open-requires : goal.walk_open-requires
@@ -31,7 +30,7 @@ walk_open-requires t c =
 
 pub shape_of-buffer-then-near_end : goal.shape_of-buffer-then-near_end
 shape_of-buffer-then-near_end t c =
-    c.walk_open.auto.1.1.1.1.1.1.1.1.1.1.1.1.1.0
+    c.walk_open.auto.buffer
 
 pub returns-then-near_end : goal.returns-then-near_end
 returns-then-near_end t c =
@@ -46,7 +45,7 @@ walk_open-requires-2 t c =
 
 pub shape_of-buffer : goal.shape_of-buffer
 shape_of-buffer t c =
-    c.walk_open-2.auto.1.1.1.1.1.1.1.1.1.1.1.1.1.0
+    c.walk_open-2.auto.buffer
 
 pub returns : goal.returns
 returns t c =
@@ -68,7 +67,7 @@ walk_place-requires t c =
 
 pub shape_of-buffer : goal.shape_of-buffer
 shape_of-buffer t c =
-    c.walk_place.auto.1.1.1.1.1.1.1.1.1.1.1.1.1.1.1.0
+    c.walk_place.auto.buffer
 
 pub returns : goal.returns
 returns t c =
@@ -91,7 +90,7 @@ walk_choice-going-requires t c =
 
 pub shape_of-buffer-then-not-going : goal.shape_of-buffer-then-not-going
 shape_of-buffer-then-not-going t c =
-    c.walk_choice-going.auto.1.1.1.1.1.1.1.1.1.1.1.1.1.0
+    c.walk_choice-going.auto.buffer
 
 pub returns-then-not-going : goal.returns-then-not-going
 returns-then-not-going t c =
@@ -101,11 +100,11 @@ returns-then-not-going t c =
     let t₁ = c.take_place-stood.ensures in
     let g = stood_as t₁ (take-allowed _ _ _ [] [] l o) in
     let v = left_as t₁ c.leave_place.ensures (leave_allowed _ _ _ [] [] l o) in
-    walked-stopped _ _ _ _ _ l o g.0 g.1 g.2 g.3 c.walk_choice-going.ensures refl v.0 v.1 (not-true _ c.if-not-going.true)
+    walked-stopped _ _ _ _ _ l o g.0 g.1 g.2 g.3 c.walk_choice-going.ensures refl v.0 v.1 (c.if-not-going.true-raw)
 
 pub shape_of-buffer-then-next-eq0 : goal.shape_of-buffer-then-next-eq0
 shape_of-buffer-then-next-eq0 t c =
-    c.walk_choice-going.auto.1.1.1.1.1.1.1.1.1.1.1.1.1.0
+    c.walk_choice-going.auto.buffer
 
 pub returns-then-next-eq0 : goal.returns-then-next-eq0
 returns-then-next-eq0 t c =
@@ -118,7 +117,7 @@ returns-then-next-eq0 t c =
     let q = c.pass_over-still.ensures in
     let w = passed_as _ _ _ _ _ _ t₁ (leave_allowed _ _ _ [] [] l o) c.none_met-unmet.ensures q.0 in
     let h = c.next_after-next.ensures in
-    let i = not-false _ c.if-not-going.false in
+    let i = c.if-not-going.false-raw in
     walked-last _ _ _ _ _ l o g.0 g.1 g.2 g.3 c.walk_choice-going.ensures q.1 v.0 v.1 i w h c.if-next-eq0.true
 
 pub walk_place-requires : goal.walk_place-requires
@@ -132,12 +131,12 @@ walk_place-requires t c =
     let q = c.pass_over-still.ensures in
     let w = passed_as _ _ _ _ _ _ t₁ (leave_allowed _ _ _ [] [] l o) c.none_met-unmet.ensures q.0 in
     let h = c.next_after-next.ensures in
-    let i = not-false _ c.if-not-going.false in
-    (to_next t (length s.args.mins.now.now) s.args.choice s.args.left _ s.requires.0 (fewer _ _ _ _ _ l o g.0 g.1 g.2 g.3 c.walk_choice-going.ensures q.1 v.0 v.1 i w h), rest_requires _ _ _ _ _ l o g.0 g.1 g.2 g.3 c.walk_choice-going.ensures q.1 v.0 v.1 i w h c.walk_choice-going.auto.1.1.1.1.1.1.1.1.1.1.1.1.1.0 c.if-next-eq0.false)
+    let i = c.if-not-going.false-raw in
+    (to_next t (length s.args.mins.now.now) s.args.choice s.args.left _ s.requires.0 (fewer _ _ _ _ _ l o g.0 g.1 g.2 g.3 c.walk_choice-going.ensures q.1 v.0 v.1 i w h), rest_requires _ _ _ _ _ l o g.0 g.1 g.2 g.3 c.walk_choice-going.ensures q.1 v.0 v.1 i w h c.walk_choice-going.auto.buffer c.if-next-eq0.false)
 
 pub shape_of-buffer : goal.shape_of-buffer
 shape_of-buffer t c =
-    c.walk_place.auto.1.1.1.1.1.1.1.1.1.1.1.1.1.1.1.0 ∙ c.walk_choice-going.auto.1.1.1.1.1.1.1.1.1.1.1.1.1.0
+    c.walk_place.auto.buffer ∙ c.walk_choice-going.auto.buffer
 
 pub returns : goal.returns
 returns t c =
@@ -150,5 +149,5 @@ returns t c =
     let q = c.pass_over-still.ensures in
     let w = passed_as _ _ _ _ _ _ t₁ (leave_allowed _ _ _ [] [] l o) c.none_met-unmet.ensures q.0 in
     let h = c.next_after-next.ensures in
-    let i = not-false _ c.if-not-going.false in
+    let i = c.if-not-going.false-raw in
     walked-rest _ _ _ _ _ l o g.0 g.1 g.2 g.3 c.walk_choice-going.ensures q.1 v.0 v.1 i w h c.walk_place.ensures

@@ -1,7 +1,6 @@
 use mathlib.Core.Path.{sym, ◌∙◌}
 use Prim.Native.Nat.{◌-◌}
 use native.Mathlib.Omega.{arith}
-use borrow.Author.Tests.{not-true, not-false}
 use Rattle.plan_check.proofs.PlanLaws.{omission_is}
 use Rattle.plan_check.proofs.SumLaws.{adding_start, adding_skip, adding_put, adding_refused, adding_done, room}
 use Rattle.plan_check.proofs.feasible.add_up.Goals as goal
@@ -12,20 +11,20 @@ loop-choice-init c =
 
 pub returns-then-not-omission_allowed : goal.returns-then-not-omission_allowed
 returns-then-not-omission_allowed c =
-    adding_refused _ _ _ _ _ _ _ _ _ c.loop-choice.invariant c.loop-choice-test.true (omega (arith, c.wide-slot.ensures.0, c.if-slots-slot.true)) (sym c.omission_allowed.ensures ∙ not-true _ c.if-not-omission_allowed.true)
+    adding_refused _ _ _ _ _ _ _ _ _ c.loop-choice.invariant c.loop-choice-test.true (omega (arith, c.wide-slot.ensures.0, c.if-slots-slot.true)) (sym c.omission_allowed.ensures ∙ c.if-not-omission_allowed.true-raw)
 
 pub loop-choice-preserved-then-slots-slot : goal.loop-choice-preserved-then-slots-slot
 loop-choice-preserved-then-slots-slot c =
-    let t = sym c.omission_allowed.ensures ∙ not-false _ c.if-not-omission_allowed.false in
+    let t = sym c.omission_allowed.ensures ∙ c.if-not-omission_allowed.false-raw in
     adding_skip _ _ _ _ _ _ _ _ _ c.loop-choice.invariant c.loop-choice-test.true (omega (arith, c.wide-slot.ensures.0, c.if-slots-slot.true)) t (omission_is _ _ t)
 
 pub add_at-requires : goal.add_at-requires
 add_at-requires c =
-    (omega (arith, c.if-slots-slot.false, c.requires.0.few-slots), room _ _ _ _ _ _ c.loop-choice.invariant.min-sums (λ k. omega (arith, c.shared_slice_known-1.given k)) (omega (arith, c.requires.0.few-choices, c.loop-choice-test.true)) (omega (arith, c.wide_amount.ensures.1)))
+    (omega (arith, c.if-slots-slot.false, c.requires.0.few-slots), room _ _ _ _ _ _ c.loop-choice.invariant.min-sums (λ k. omega (arith, c.type_inv.mins k)) (omega (arith, c.requires.0.few-choices, c.loop-choice-test.true)) (omega (arith, c.wide_amount.ensures.1)))
 
 pub add_at-requires-in-loop-choice : goal.add_at-requires-in-loop-choice
 add_at-requires-in-loop-choice c =
-    (omega (arith, c.if-slots-slot.false, c.requires.0.few-slots), room _ _ _ _ _ _ c.loop-choice.invariant.max-sums (λ k. omega (arith, c.shared_slice_known-2-1.given k)) (omega (arith, c.requires.0.few-choices, c.loop-choice-test.true)) (omega (arith, c.wide_amount-in-loop-choice.ensures.1)))
+    (omega (arith, c.if-slots-slot.false, c.requires.0.few-slots), room _ _ _ _ _ _ c.loop-choice.invariant.max-sums (λ k. omega (arith, c.type_inv.maxs k)) (omega (arith, c.requires.0.few-choices, c.loop-choice-test.true)) (omega (arith, c.wide_amount-in-loop-choice.ensures.1)))
 
 pub add_at-requires-in-loop-choice-2 : goal.add_at-requires-in-loop-choice-2
 add_at-requires-in-loop-choice-2 c =

@@ -1,7 +1,6 @@
 -- The shapes, one test after the other, and then the passes.
 use Rattle.plan_check.specs.Day.{day_of}
 use mathlib.Core.Path.{sym, ◌∙◌}
-use borrow.Author.Tests.{not-true, not-false}
 use Rattle.plan_check.proofs.FeasibleLaws.{many-choices, many-slots, bad_lengths, worker_agrees, shapes}
 use Rattle.plan_check.proofs.feasible.is_feasible.Goals as goal
 
@@ -15,12 +14,12 @@ returns-then-counts-gt24 c =
 
 pub returns-then-not-lengths_fit : goal.returns-then-not-lengths_fit
 returns-then-not-lengths_fit c =
-    bad_lengths _ _ c.if-counts-gt64.false c.if-counts-gt24.false (sym c.lengths_fit.ensures ∙ not-true _ c.if-not-lengths_fit.true)
+    bad_lengths _ _ c.if-counts-gt64.false c.if-counts-gt24.false (sym c.lengths_fit.ensures ∙ c.if-not-lengths_fit.true-raw)
 
 pub passes-requires : goal.passes-requires
 passes-requires c =
-    shapes (day_of c.args.counts c.args.mins.now c.args.maxs.now c.args.optional.now c.args.rows.now) _ c.if-counts-gt64.false c.if-counts-gt24.false (sym c.lengths_fit.ensures ∙ not-false _ c.if-not-lengths_fit.false)
+    shapes (day_of c.args.counts c.args.mins.now c.args.maxs.now c.args.optional.now c.args.rows.now) _ c.if-counts-gt64.false c.if-counts-gt24.false (sym c.lengths_fit.ensures ∙ c.if-not-lengths_fit.false-raw)
 
 pub returns : goal.returns
 returns c =
-    c.passes.ensures ∙ worker_agrees _ _ c.if-counts-gt64.false c.if-counts-gt24.false (sym c.lengths_fit.ensures ∙ not-false _ c.if-not-lengths_fit.false)
+    c.passes.ensures ∙ worker_agrees _ _ c.if-counts-gt64.false c.if-counts-gt24.false (sym c.lengths_fit.ensures ∙ c.if-not-lengths_fit.false-raw)

@@ -1,6 +1,5 @@
 use mathlib.Core.Path.{sym, ◌∙◌}
 use Prim.Native.Nat.{◌-◌}
-use borrow.Author.Tests.{not-true, not-false}
 use Rattle.plan_check.specs.Check.{cell_fits}
 use Rattle.plan_check.proofs.CheckLaws.{rest-start, rest-next, rest-fails, rest-none}
 use borrow.Author.Rules.{rules}
@@ -12,11 +11,11 @@ loop-i-init c =
 
 pub returns-then-not-cell_fits : goal.returns-then-not-cell_fits
 returns-then-not-cell_fits c =
-    sym (rest-fails _ _ _ c.loop-i-test.true c.loop-i.invariant.1 (sym c.cell_fits.ensures ∙ not-true _ c.if-not-cell_fits.true))
+    sym (rest-fails _ _ _ c.loop-i-test.true c.loop-i.invariant.1 (sym c.cell_fits.ensures ∙ c.if-not-cell_fits.true-raw))
 
 pub loop-i-preserved : goal.loop-i-preserved
 loop-i-preserved c =
-    (search rules, rest-next _ _ _ c.loop-i-test.true c.loop-i.invariant.1 (sym c.cell_fits.ensures ∙ not-false _ c.if-not-cell_fits.false))
+    (search rules, rest-next _ _ _ c.loop-i-test.true c.loop-i.invariant.1 (sym c.cell_fits.ensures ∙ c.if-not-cell_fits.false-raw))
 
 pub returns : goal.returns
 returns c =

@@ -1,17 +1,16 @@
 -- The two tests in the definition's order.
 use mathlib.Core.Path.{sym, ◌∙◌}
-use borrow.Author.Tests.{not-true, not-false}
 use Rattle.plan_check.proofs.CheckLaws.{bad_cell, bad_flag, good-cells}
 use Rattle.plan_check.proofs.plan_check.check_cells.Goals as goal
 
 pub returns-then-not-cells : goal.returns-then-not-cells
 returns-then-not-cells c =
-    bad_cell _ _ _ (sym c.cells_known-cells.ensures ∙ not-true _ c.if-not-cells.true)
+    bad_cell _ _ _ (sym c.cells_known-cells.ensures ∙ c.if-not-cells.true-raw)
 
 pub returns-then-not-flags : goal.returns-then-not-flags
 returns-then-not-flags c =
-    bad_flag _ _ _ (sym c.cells_known-cells.ensures ∙ not-false _ c.if-not-cells.false) (sym c.flags_fit-flags.ensures ∙ not-true _ c.if-not-flags.true)
+    bad_flag _ _ _ (sym c.cells_known-cells.ensures ∙ c.if-not-cells.false-raw) (sym c.flags_fit-flags.ensures ∙ c.if-not-flags.true-raw)
 
 pub returns : goal.returns
 returns c =
-    good-cells _ _ _ (sym c.cells_known-cells.ensures ∙ not-false _ c.if-not-cells.false) (sym c.flags_fit-flags.ensures ∙ not-false _ c.if-not-flags.false)
+    good-cells _ _ _ (sym c.cells_known-cells.ensures ∙ c.if-not-cells.false-raw) (sym c.flags_fit-flags.ensures ∙ c.if-not-flags.false-raw)

@@ -1,21 +1,20 @@
 -- Each return is one law: the tests before it hold, and its own does not.
 use mathlib.Core.Path.{sym, ◌∙◌}
-use borrow.Author.Tests.{not-true, not-false}
 use Rattle.plan_check.proofs.CheckLaws.{before-count, before-length, before-rows-length, before-rows}
 use Rattle.plan_check.proofs.plan_check.judge.Goals as goal
 
 pub returns-then-not-counts_in_range : goal.returns-then-not-counts_in_range
 returns-then-not-counts_in_range c =
-    before-count _ _ (sym c.counts_in_range.ensures ∙ not-true _ c.if-not-counts_in_range.true)
+    before-count _ _ (sym c.counts_in_range.ensures ∙ c.if-not-counts_in_range.true-raw)
 
 pub returns-then-not-lengths_fit : goal.returns-then-not-lengths_fit
 returns-then-not-lengths_fit c =
-    before-length _ _ (sym c.counts_in_range.ensures ∙ not-false _ c.if-not-counts_in_range.false) (sym c.lengths_fit.ensures ∙ not-true _ c.if-not-lengths_fit.true)
+    before-length _ _ (sym c.counts_in_range.ensures ∙ c.if-not-counts_in_range.false-raw) (sym c.lengths_fit.ensures ∙ c.if-not-lengths_fit.true-raw)
 
 pub returns-then-rows-counts : goal.returns-then-rows-counts
 returns-then-rows-counts c =
-    before-rows-length _ _ (sym c.counts_in_range.ensures ∙ not-false _ c.if-not-counts_in_range.false) (sym c.lengths_fit.ensures ∙ not-false _ c.if-not-lengths_fit.false) c.if-rows-counts.true
+    before-rows-length _ _ (sym c.counts_in_range.ensures ∙ c.if-not-counts_in_range.false-raw) (sym c.lengths_fit.ensures ∙ c.if-not-lengths_fit.false-raw) c.if-rows-counts.true
 
 pub returns : goal.returns
 returns c =
-    c.check_each_row.ensures ∙ before-rows _ _ (sym c.counts_in_range.ensures ∙ not-false _ c.if-not-counts_in_range.false) (sym c.lengths_fit.ensures ∙ not-false _ c.if-not-lengths_fit.false) c.if-rows-counts.false
+    c.check_each_row.ensures ∙ before-rows _ _ (sym c.counts_in_range.ensures ∙ c.if-not-counts_in_range.false-raw) (sym c.lengths_fit.ensures ∙ c.if-not-lengths_fit.false-raw) c.if-rows-counts.false

@@ -1,5 +1,4 @@
 use mathlib.Core.Path.{sym, ◌∙◌}
-use borrow.Author.Tests.{not-true, not-false}
 use Rattle.plan_check.proofs.RowLaws.{rows_start, rows_next, rows-broken, rows-kept}
 use borrow.Author.Rules.{rules}
 use Rattle.plan_check.proofs.rows.keeps_rows.Goals as goal
@@ -11,12 +10,12 @@ loop-left-init c =
 pub returns-then-not-keeps_row : goal.returns-then-not-keeps_row
 returns-then-not-keeps_row c =
     let l = c.loop-left in
-    sym (rows-broken _ _ _ c.loop-left-test.true l.invariant.0 l.invariant.1 (sym c.keeps_row.ensures ∙ not-true _ c.if-not-keeps_row.true))
+    sym (rows-broken _ _ _ c.loop-left-test.true l.invariant.0 l.invariant.1 (sym c.keeps_row.ensures ∙ c.if-not-keeps_row.true-raw))
 
 pub loop-left-preserved : goal.loop-left-preserved
 loop-left-preserved c =
     let l = c.loop-left in
-    (search rules, rows_next _ _ _ c.loop-left-test.true l.invariant.0 l.invariant.1 (sym c.keeps_row.ensures ∙ not-false _ c.if-not-keeps_row.false))
+    (search rules, rows_next _ _ _ c.loop-left-test.true l.invariant.0 l.invariant.1 (sym c.keeps_row.ensures ∙ c.if-not-keeps_row.false-raw))
 
 pub returns : goal.returns
 returns c =

@@ -13,7 +13,7 @@ returns-then-plan-at c =
 
 pub overflow_cast-result-2 : goal.overflow_cast-result-2
 overflow_cast-result-2 c =
-    omega (arith, c.shared_slice_known-2-1.given c.left_of-at.result)
+    omega (arith, c.type_inv.plan c.left_of-at.result)
 
 pub returns : goal.returns
 returns c =

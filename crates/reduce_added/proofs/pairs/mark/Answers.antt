@@ -13,7 +13,7 @@ pub loop-i-preserved : goal.loop-i-preserved
 loop-i-preserved c =
     let l = c.loop-i in
     let g = c.named-1.given in
-    (omega arith, g ∙ l.invariant.1, pass_step _ l.named-1 _ l.i c.loop-i-test.true g c.mark_one.ensures l.invariant.2)
+    (omega arith, g ∙ l.invariant.1, pass_step _ l.named _ l.i c.loop-i-test.true g c.mark_one.ensures l.invariant.2)
 
 pub shape_of-named : goal.shape_of-named
 shape_of-named c =

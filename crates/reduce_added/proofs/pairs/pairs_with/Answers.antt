@@ -18,7 +18,7 @@ overflow_add-at c = omega (arith, c.loop-j.invariant.1.counted, c.requires)
 pub loop-j-preserved : goal.loop-j-preserved
 loop-j-preserved c =
     let l = c.loop-j in
-    (omega arith, stores_one _ _ (map_at _ _ l.j 0 c.loop-j-test.true) l.invariant.1 (c.put.ensures ∙ ap (set l.free-1 l.at) (pair-row-is _ _ c.pair_row.ensures c.number.ensures)))
+    (omega arith, stores_one _ _ (map_at _ _ l.j 0 c.loop-j-test.true) l.invariant.1 (c.put.ensures ∙ ap (set l.free l.at) (pair-row-is _ _ c.pair_row.ensures c.number.ensures)))
 
 pub shape_of-free : goal.shape_of-free
 shape_of-free c = c.loop-j.invariant.1.same

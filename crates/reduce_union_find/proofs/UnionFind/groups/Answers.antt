@@ -1,6 +1,5 @@
 -- Each way out of `groups` is a law of `Grouping`.
 use mathlib.Core.Path.{◌≡◌, sym, ap, ◌∙◌}
-use borrow.Author.Tests.{not-true, not-false}
 use lib.ListN.{length}
 use Rattle.reduce_union_find.specs.Groups.{groups_written}
 use Rattle.reduce_union_find.proofs.Grouping.{groups_untaken, groups-members, groups-ends, groups-wrote, roots_are, taken_climbs}
@@ -15,25 +14,25 @@ pub is_taken-requires : goal.is_taken-requires
 is_taken-requires c = wide c
 
 pub returns-then-not-is_taken : goal.returns-then-not-is_taken
-returns-then-not-is_taken c = sym (groups_untaken _ _ _ _ (sym c.is_taken.ensures ∙ not-true _ c.if-not-is_taken.true))
+returns-then-not-is_taken c = sym (groups_untaken _ _ _ _ (sym c.is_taken.ensures ∙ c.if-not-is_taken.true-raw))
 
 pub returns-then-members-ne64 : goal.returns-then-members-ne64
-returns-then-members-ne64 c = sym (groups-members _ _ _ _ (sym c.is_taken.ensures ∙ not-false _ c.if-not-is_taken.false) c.if-members-ne64.true)
+returns-then-members-ne64 c = sym (groups-members _ _ _ _ (sym c.is_taken.ensures ∙ c.if-not-is_taken.false-raw) c.if-members-ne64.true)
 
 pub returns-then-ends-ne64 : goal.returns-then-ends-ne64
-returns-then-ends-ne64 c = sym (groups-ends _ _ _ _ (sym c.is_taken.ensures ∙ not-false _ c.if-not-is_taken.false) c.if-ends-ne64.true)
+returns-then-ends-ne64 c = sym (groups-ends _ _ _ _ (sym c.is_taken.ensures ∙ c.if-not-is_taken.false-raw) c.if-ends-ne64.true)
 
 pub write_all-requires : goal.write_all-requires
-write_all-requires c = (taken_climbs _ _ (wide c).0 (sym c.is_taken.ensures ∙ not-false _ c.if-not-is_taken.false), c.if-members-ne64.false, c.if-ends-ne64.false)
+write_all-requires c = (taken_climbs _ _ (wide c).0 (sym c.is_taken.ensures ∙ c.if-not-is_taken.false-raw), c.if-members-ne64.false, c.if-ends-ne64.false)
 
 pub shape_of-members : goal.shape_of-members
-shape_of-members c = c.write_all.auto.1.1.0
+shape_of-members c = c.write_all.auto.members
 
 pub shape_of-ends : goal.shape_of-ends
-shape_of-ends c = c.write_all.auto.1.1.1.0
+shape_of-ends c = c.write_all.auto.ends
 
 pub returns : goal.returns
 returns c =
     c.write_all.ensures
     ∙ ap groups_written (roots_are _ _)
-    ∙ sym (groups-wrote _ _ _ _ (sym c.is_taken.ensures ∙ not-false _ c.if-not-is_taken.false) c.if-members-ne64.false c.if-ends-ne64.false)
+    ∙ sym (groups-wrote _ _ _ _ (sym c.is_taken.ensures ∙ c.if-not-is_taken.false-raw) c.if-members-ne64.false c.if-ends-ne64.false)

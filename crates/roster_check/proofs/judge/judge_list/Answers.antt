@@ -2,7 +2,6 @@ use borrow.Author.Rules.{rules}
 use mathlib.Core.Path.{sym, ◌∙◌}
 use Prim.Native.Nat.{◌-◌}
 use native.Mathlib.Omega.{arith}
-use borrow.Author.Tests.{not-true, not-false}
 use Rattle.roster_check.proofs.JudgeLaws.{list-start, list-next, list_stops, list-good}
 use Rattle.roster_check.proofs.judge.judge_list.Goals as goal
 
@@ -16,11 +15,11 @@ overflow_add-result c =
 
 pub returns-then-not-row_keeps : goal.returns-then-not-row_keeps
 returns-then-not-row_keeps c =
-    list_stops _ _ _ _ _ c.loop-i-test.true c.loop-i.invariant.1 (sym c.row_keeps.ensures ∙ not-true _ c.if-not-row_keeps.true)
+    list_stops _ _ _ _ _ c.loop-i-test.true c.loop-i.invariant.1 (sym c.row_keeps.ensures ∙ c.if-not-row_keeps.true-raw)
 
 pub loop-i-preserved : goal.loop-i-preserved
 loop-i-preserved c =
-    (search rules, list-next _ _ _ _ _ c.loop-i-test.true c.loop-i.invariant.1 (sym c.row_keeps.ensures ∙ not-false _ c.if-not-row_keeps.false))
+    (search rules, list-next _ _ _ _ _ c.loop-i-test.true c.loop-i.invariant.1 (sym c.row_keeps.ensures ∙ c.if-not-row_keeps.false-raw))
 
 pub returns : goal.returns
 returns c =

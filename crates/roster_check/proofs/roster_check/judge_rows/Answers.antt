@@ -6,8 +6,8 @@ use Rattle.roster_check.proofs.roster_check.judge_rows.Goals as goal
 
 pub returns-in-Refused : goal.returns-in-Refused
 returns-in-Refused c =
-    rows-first _ _ _ (sym (ap checked_tells c.first-1.given.1) ∙ c.judge_list-first.ensures)
+    rows-first _ _ _ (sym (ap checked_tells c.in-Refused.is) ∙ c.judge_list-first.ensures)
 
 pub returns : goal.returns
 returns c =
-    rows-second _ _ _ (sym (ap checked_tells c.enum_told-1.given.1) ∙ c.judge_list-first.ensures) c.judge_list.ensures
+    rows-second _ _ _ (sym (ap checked_tells c.in_default.is) ∙ c.judge_list-first.ensures) c.judge_list.ensures

@@ -1,14 +1,13 @@
 -- The passes over slots, seats, and the rows of both lists, one after the other.
 use mathlib.Core.Path.{sym, ◌∙◌}
 use native.Mathlib.Omega.{arith}
-use borrow.Author.Tests.{not-true, not-false}
 use Rattle.roster_rows.proofs.CellLaws.{few-cells}
 use Rattle.roster_check.proofs.CallLaws.{passes-apart, passes_seats, passes-rows, passes-assignment}
 use Rattle.roster_check.proofs.roster_check.passes_all.Goals as goal
 
 pub returns-then-not-all_apart : goal.returns-then-not-all_apart
 returns-then-not-all_apart c =
-    passes-apart _ (sym c.all_apart.ensures ∙ not-true _ c.if-not-all_apart.true)
+    passes-apart _ (sym c.all_apart.ensures ∙ c.if-not-all_apart.true-raw)
 
 pub seats_fit-requires : goal.seats_fit-requires
 seats_fit-requires c =
@@ -17,12 +16,12 @@ seats_fit-requires c =
 
 pub returns-then-not-seats_fit : goal.returns-then-not-seats_fit
 returns-then-not-seats_fit c =
-    passes_seats _ c.requires (sym c.all_apart.ensures ∙ not-false _ c.if-not-all_apart.false) (sym c.seats_fit.ensures ∙ not-true _ c.if-not-seats_fit.true)
+    passes_seats _ c.requires (sym c.all_apart.ensures ∙ c.if-not-all_apart.false-raw) (sym c.seats_fit.ensures ∙ c.if-not-seats_fit.true-raw)
 
 pub returns-then-not-keeps_every_row : goal.returns-then-not-keeps_every_row
 returns-then-not-keeps_every_row c =
-    passes-rows _ c.requires (sym c.all_apart.ensures ∙ not-false _ c.if-not-all_apart.false) (sym c.seats_fit.ensures ∙ not-false _ c.if-not-seats_fit.false) (sym c.keeps_every_row.ensures ∙ not-true _ c.if-not-keeps_every_row.true)
+    passes-rows _ c.requires (sym c.all_apart.ensures ∙ c.if-not-all_apart.false-raw) (sym c.seats_fit.ensures ∙ c.if-not-seats_fit.false-raw) (sym c.keeps_every_row.ensures ∙ c.if-not-keeps_every_row.true-raw)
 
 pub returns : goal.returns
 returns c =
-    c.keeps_assignment_rows.ensures ∙ passes-assignment _ c.requires (sym c.all_apart.ensures ∙ not-false _ c.if-not-all_apart.false) (sym c.seats_fit.ensures ∙ not-false _ c.if-not-seats_fit.false) (sym c.keeps_every_row.ensures ∙ not-false _ c.if-not-keeps_every_row.false)
+    c.keeps_assignment_rows.ensures ∙ passes-assignment _ c.requires (sym c.all_apart.ensures ∙ c.if-not-all_apart.false-raw) (sym c.seats_fit.ensures ∙ c.if-not-seats_fit.false-raw) (sym c.keeps_every_row.ensures ∙ c.if-not-keeps_every_row.false-raw)

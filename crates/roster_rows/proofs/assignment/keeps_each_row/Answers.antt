@@ -1,7 +1,6 @@
 use borrow.Author.Rules.{rules}
 use mathlib.Core.Path.{sym, ◌∙◌}
 use Prim.Native.Nat.{◌-◌}
-use borrow.Author.Tests.{not-true, not-false}
 use Rattle.plan_check.proofs.CheckLaws.{rest-start, rest-next, rest-fails, rest-none}
 use Rattle.roster_rows.specs.Rows.{keeps_assignment_row, keeps_assignment_rows}
 use Rattle.roster_rows.proofs.assignment.keeps_each_row.Goals as goal
@@ -13,11 +12,11 @@ loop-i-init c =
 pub returns-then-not-keeps_assignment_row : goal.returns-then-not-keeps_assignment_row
 unfolding keeps_assignment_rows
 returns-then-not-keeps_assignment_row c =
-    sym (rest-fails _ _ _ c.loop-i-test.true c.loop-i.invariant.1 (sym c.keeps_assignment_row.ensures ∙ not-true _ c.if-not-keeps_assignment_row.true))
+    sym (rest-fails _ _ _ c.loop-i-test.true c.loop-i.invariant.1 (sym c.keeps_assignment_row.ensures ∙ c.if-not-keeps_assignment_row.true-raw))
 
 pub loop-i-preserved : goal.loop-i-preserved
 loop-i-preserved c =
-    (search rules, rest-next _ _ _ c.loop-i-test.true c.loop-i.invariant.1 (sym c.keeps_assignment_row.ensures ∙ not-false _ c.if-not-keeps_assignment_row.false))
+    (search rules, rest-next _ _ _ c.loop-i-test.true c.loop-i.invariant.1 (sym c.keeps_assignment_row.ensures ∙ c.if-not-keeps_assignment_row.false-raw))
 
 pub returns : goal.returns
 unfolding keeps_assignment_rows

@@ -14,11 +14,11 @@ loop-chooser-init c =
 
 pub returns-then-times_in : goal.returns-then-times_in
 returns-then-times_in c =
-    choosers_differ _ _ _ _ _ _ _ c.Cells-of.ensures c.times_in.ensures c.times_in-in-loop-chooser.ensures c.loop-chooser-test.true c.if-times_in.true
+    choosers_differ _ _ _ _ _ _ _ c.cells_of-cells.ensures c.times_in.ensures c.times_in-in-loop-chooser.ensures c.loop-chooser-test.true c.if-times_in.true
 
 pub loop-chooser-preserved : goal.loop-chooser-preserved
 loop-chooser-preserved c =
-    (omega arith, choosers-agree _ c.args.choosers _ _ _ _ _ c.Cells-of.ensures c.times_in.ensures c.times_in-in-loop-chooser.ensures c.if-times_in.false c.loop-chooser.invariant.1)
+    (omega arith, choosers-agree _ c.args.choosers _ _ _ _ _ c.cells_of-cells.ensures c.times_in.ensures c.times_in-in-loop-chooser.ensures c.if-times_in.false c.loop-chooser.invariant.1)
 
 pub returns : goal.returns
 returns c =

@@ -8,4 +8,4 @@ use Rattle.roster_rows.proofs.assignment.seated.Goals as goal
 pub returns : goal.returns
 unfolding is_there
 returns c =
-    c.is_there.ensures ∙ ap (any_of (eqb _)) c.Cells-of.ensures
+    c.is_there.ensures ∙ ap (any_of (eqb _)) c.cells_of.ensures

@@ -12,7 +12,7 @@ loop-s-init c =
     (search rules, refl)
 
 pub overflow_cast-cells : goal.overflow_cast-cells
-overflow_cast-cells c = omega (arith, c.shared_slice_known-1.given c.loop-s.s)
+overflow_cast-cells c = omega (arith, c.type_inv.cells c.loop-s.s)
 
 pub returns-then-cells-s : goal.returns-then-cells-s
 returns-then-cells-s c =

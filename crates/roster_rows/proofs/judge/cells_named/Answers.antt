@@ -1,7 +1,6 @@
 use borrow.Author.Rules.{rules}
 use mathlib.Core.Path.{sym, ◌∙◌}
 use Prim.Native.Nat.{◌-◌}
-use borrow.Author.Tests.{not-true, not-false}
 use Rattle.plan_check.proofs.CheckLaws.{rest-start, rest-next, rest-fails, rest-none}
 use Rattle.roster_rows.specs.Seats.{names_scheduled}
 use Rattle.roster_rows.proofs.judge.cells_named.Goals as goal
@@ -12,11 +11,11 @@ loop-i-init c =
 
 pub returns-then-not-names_scheduled : goal.returns-then-not-names_scheduled
 returns-then-not-names_scheduled c =
-    sym (rest-fails _ _ _ c.loop-i-test.true c.loop-i.invariant.1 (sym c.names_scheduled.ensures ∙ not-true _ c.if-not-names_scheduled.true))
+    sym (rest-fails _ _ _ c.loop-i-test.true c.loop-i.invariant.1 (sym c.names_scheduled.ensures ∙ c.if-not-names_scheduled.true-raw))
 
 pub loop-i-preserved : goal.loop-i-preserved
 loop-i-preserved c =
-    (search rules, rest-next _ _ _ c.loop-i-test.true c.loop-i.invariant.1 (sym c.names_scheduled.ensures ∙ not-false _ c.if-not-names_scheduled.false))
+    (search rules, rest-next _ _ _ c.loop-i-test.true c.loop-i.invariant.1 (sym c.names_scheduled.ensures ∙ c.if-not-names_scheduled.false-raw))
 
 pub returns : goal.returns
 returns c =

@@ -17,7 +17,7 @@ pub shape_of-plan-in-Answer : goal.shape_of-plan-in-Answer
 shape_of-plan-in-Answer c = c.plan-1.given ∙ ap length c.loop-answer.invariant.same-plan
 
 pub returns-in-Answer : goal.returns-in-Answer
-returns-in-Answer c = let s = c in let f = c.loop-answer.invariant in along_answer _ _ _ _ _ _ _ _ _ _ _ f c.turns_of-turns.ensures c.pass_at-passed.result (pass-taken _ _ (map_of s.args.starts.now s.args.lengths.now s.args.numbers.now) _ _ _ _ _ _ _ _ s.requires _ _ _ _ f.same-plan c.pass_at-passed.ensures) c.after_pass-step.result c.after_pass-step.ensures c.step-1.given.1
+returns-in-Answer c = let s = c in let f = c.loop-answer.invariant in along_answer _ _ _ _ _ _ _ _ _ _ _ f c.turns_of-turns.ensures c.pass_at-passed.result (pass-taken _ _ (map_of s.args.starts.now s.args.lengths.now s.args.numbers.now) _ _ _ _ _ _ _ _ s.requires _ _ _ _ f.same-plan c.pass_at-passed.ensures) c.after_pass-step.result c.after_pass-step.ensures c.in-Answer.is
 
 pub overflow_add-above : goal.overflow_add-above
 overflow_add-above c = let f = c.loop-answer.invariant in omega (arith, f.within, f.few-levels)
@@ -29,4 +29,4 @@ pub loop-answer-smaller : goal.loop-answer-smaller
 loop-answer-smaller c = let f = c.loop-answer.invariant in omega (arith, f.within)
 
 pub loop-answer-preserved : goal.loop-answer-preserved
-loop-answer-preserved c = let s = c in let f = c.loop-answer.invariant in along_on _ _ _ _ _ _ _ _ _ _ _ f c.turns_of-turns.ensures c.pass_at-passed.result (pass-taken _ _ (map_of s.args.starts.now s.args.lengths.now s.args.numbers.now) _ _ _ _ _ _ _ _ s.requires _ _ _ _ f.same-plan c.pass_at-passed.ensures) c.after_pass-step.result c.after_pass-step.ensures c.step-in-On-1.given.1 c.level_at-limit.ensures
+loop-answer-preserved c = let s = c in let f = c.loop-answer.invariant in along_on _ _ _ _ _ _ _ _ _ _ _ f c.turns_of-turns.ensures c.pass_at-passed.result (pass-taken _ _ (map_of s.args.starts.now s.args.lengths.now s.args.numbers.now) _ _ _ _ _ _ _ _ s.requires _ _ _ _ f.same-plan c.pass_at-passed.ensures) c.after_pass-step.result c.after_pass-step.ensures c.in-On.is c.level_at-limit.ensures

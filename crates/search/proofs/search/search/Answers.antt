@@ -11,16 +11,16 @@ use Rattle.search.proofs.CallSteps.{day-refused, sets-refused, sets-found, lent-
 use Rattle.search.proofs.search.search.Goals as goal
 
 pub returns-in-Refused : goal.returns-in-Refused
-returns-in-Refused c = day-refused _ _ _ (c.judge_day-judged.ensures ∙ day-alone _ _ _ _ _ _ _ _ _ _ _ _) c.judged-1.given.1
+returns-in-Refused c = day-refused _ _ _ (c.judge_day-judged.ensures ∙ day-alone _ _ _ _ _ _ _ _ _ _ _ _) c.in-Refused.is
 
 pub returns-in-Refused-lent : goal.returns-in-Refused-lent
-returns-in-Refused-lent c = let s = c in let given = given_of s.args.counts s.args.mins.now s.args.maxs.now s.args.optional.now s.args.levels.now s.args.preferences.now s.args.rows.now (map_of s.args.starts.now s.args.lengths.now s.args.numbers.now) s.args.whole.now s.args.orders.now s.args.draws.now in let d : day_judged given s.args.plan.now ≡ good = (sym (day-alone _ _ _ _ _ _ _ _ _ _ _ _) ∙ sym (told-by c.judge_day-judged.ensures c.enum_told-1.given.1)) in lent-refused given s.args.settings s.args.plan.now d (sets-found given s.args.settings s.args.plan.now d _ _ c.numbers-masks.ensures.0 c.row_words-set_levels.ensures.0 c.day_counts.ensures c.analyze-analyzed.ensures c.analyzed-in-Sets-1.given.1) (c.judge_lent-lent.ensures ∙ lent-alone _ _ _ _ _ _ _ _ _ _ _ []) c.lent-1.given.1
+returns-in-Refused-lent c = let s = c in let given = given_of s.args.counts s.args.mins.now s.args.maxs.now s.args.optional.now s.args.levels.now s.args.preferences.now s.args.rows.now (map_of s.args.starts.now s.args.lengths.now s.args.numbers.now) s.args.whole.now s.args.orders.now s.args.draws.now in let d : day_judged given s.args.plan.now ≡ good = (sym (day-alone _ _ _ _ _ _ _ _ _ _ _ _) ∙ sym (told-by c.judge_day-judged.ensures c.in_default.is)) in lent-refused given s.args.settings s.args.plan.now d (sets-found given s.args.settings s.args.plan.now d _ _ c.numbers-masks.ensures.0 c.row_words-set_levels.ensures.0 c.day_counts.ensures c.analyze-analyzed.ensures c.in-Sets.is) (c.judge_lent-lent.ensures ∙ lent-alone _ _ _ _ _ _ _ _ _ _ _ []) c.in-Refused-lent.is
 
 pub passes_from-requires : goal.passes_from-requires
-passes_from-requires c = let s = c in let given = given_of s.args.counts s.args.mins.now s.args.maxs.now s.args.optional.now s.args.levels.now s.args.preferences.now s.args.rows.now (map_of s.args.starts.now s.args.lengths.now s.args.numbers.now) s.args.whole.now s.args.orders.now s.args.draws.now in let d : day_judged given s.args.plan.now ≡ good = (sym (day-alone _ _ _ _ _ _ _ _ _ _ _ _) ∙ sym (told-by c.judge_day-judged.ensures c.enum_told-1.given.1)) in passes-ready given s.args.settings s.args.plan.now d (sets-found given s.args.settings s.args.plan.now d _ _ c.numbers-masks.ensures.0 c.row_words-set_levels.ensures.0 c.day_counts.ensures c.analyze-analyzed.ensures c.analyzed-in-Sets-1.given.1) (sym (lent-alone _ _ _ _ _ _ _ _ _ _ _ []) ∙ sym (told-by c.judge_lent-lent.ensures c.enum_told-in_default-lent-1.given.1)) c.row_Counts.ensures (sym c.masks-2-1.given) (sym c.set_levels-2-1.given)
+passes_from-requires c = let s = c in let given = given_of s.args.counts s.args.mins.now s.args.maxs.now s.args.optional.now s.args.levels.now s.args.preferences.now s.args.rows.now (map_of s.args.starts.now s.args.lengths.now s.args.numbers.now) s.args.whole.now s.args.orders.now s.args.draws.now in let d : day_judged given s.args.plan.now ≡ good = (sym (day-alone _ _ _ _ _ _ _ _ _ _ _ _) ∙ sym (told-by c.judge_day-judged.ensures c.in_default.is)) in passes-ready given s.args.settings s.args.plan.now d (sets-found given s.args.settings s.args.plan.now d _ _ c.numbers-masks.ensures.0 c.row_words-set_levels.ensures.0 c.day_counts.ensures c.analyze-analyzed.ensures c.in-Sets.is) (sym (lent-alone _ _ _ _ _ _ _ _ _ _ _ []) ∙ sym (told-by c.judge_lent-lent.ensures c.in_default-lent.is)) c.row_counts.ensures (sym c.masks-2-1.given) (sym c.set_levels-2-1.given)
 
 pub returns-in-Refused-analyzed : goal.returns-in-Refused-analyzed
-returns-in-Refused-analyzed c = sets-refused _ _ _ (sym (day-alone _ _ _ _ _ _ _ _ _ _ _ _) ∙ sym (told-by c.judge_day-judged.ensures c.enum_told-1.given.1)) _ _ c.numbers-masks.ensures.0 c.row_words-set_levels.ensures.0 c.day_counts.ensures c.analyze-analyzed.ensures c.analyzed-1.given.1
+returns-in-Refused-analyzed c = sets-refused _ _ _ (sym (day-alone _ _ _ _ _ _ _ _ _ _ _ _) ∙ sym (told-by c.judge_day-judged.ensures c.in_default.is)) _ _ c.numbers-masks.ensures.0 c.row_words-set_levels.ensures.0 c.day_counts.ensures c.analyze-analyzed.ensures c.in-Refused-analyzed.is
 
 pub returns-in_default-lent : goal.returns-in_default-lent
-returns-in_default-lent c = let s = c in let given = given_of s.args.counts s.args.mins.now s.args.maxs.now s.args.optional.now s.args.levels.now s.args.preferences.now s.args.rows.now (map_of s.args.starts.now s.args.lengths.now s.args.numbers.now) s.args.whole.now s.args.orders.now s.args.draws.now in let d : day_judged given s.args.plan.now ≡ good = (sym (day-alone _ _ _ _ _ _ _ _ _ _ _ _) ∙ sym (told-by c.judge_day-judged.ensures c.enum_told-1.given.1)) in passes-answer given s.args.settings s.args.plan.now d (sets-found given s.args.settings s.args.plan.now d _ _ c.numbers-masks.ensures.0 c.row_words-set_levels.ensures.0 c.day_counts.ensures c.analyze-analyzed.ensures c.analyzed-in-Sets-1.given.1) (sym (lent-alone _ _ _ _ _ _ _ _ _ _ _ []) ∙ sym (told-by c.judge_lent-lent.ensures c.enum_told-in_default-lent-1.given.1)) c.row_Counts.ensures c.start_of_lem.ensures c.passes_from.ensures
+returns-in_default-lent c = let s = c in let given = given_of s.args.counts s.args.mins.now s.args.maxs.now s.args.optional.now s.args.levels.now s.args.preferences.now s.args.rows.now (map_of s.args.starts.now s.args.lengths.now s.args.numbers.now) s.args.whole.now s.args.orders.now s.args.draws.now in let d : day_judged given s.args.plan.now ≡ good = (sym (day-alone _ _ _ _ _ _ _ _ _ _ _ _) ∙ sym (told-by c.judge_day-judged.ensures c.in_default.is)) in passes-answer given s.args.settings s.args.plan.now d (sets-found given s.args.settings s.args.plan.now d _ _ c.numbers-masks.ensures.0 c.row_words-set_levels.ensures.0 c.day_counts.ensures c.analyze-analyzed.ensures c.in-Sets.is) (sym (lent-alone _ _ _ _ _ _ _ _ _ _ _ []) ∙ sym (told-by c.judge_lent-lent.ensures c.in_default-lent.is)) c.row_counts.ensures c.start_of.ensures c.passes_from.ensures

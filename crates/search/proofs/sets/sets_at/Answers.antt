@@ -4,7 +4,7 @@ use Rattle.search.proofs.SetSteps.{sets-listed, sets-refused}
 use Rattle.search.proofs.sets.sets_at.Goals as goal
 
 pub returns-in_default : goal.returns-in_default
-returns-in_default c = (omega arith, sets-refused _ _ _ _ _ _ c.requires c.level_list-listed.ensures c.enum_told-1.given.1)
+returns-in_default c = (omega arith, sets-refused _ _ _ _ _ _ c.requires c.level_list-listed.ensures c.in_default.is)
 
 pub returns : goal.returns
-returns c = sets-listed _ _ _ _ _ _ c.requires c.level_list-listed.ensures c.listed-1.given.1
+returns c = sets-listed _ _ _ _ _ _ c.requires c.level_list-listed.ensures c.in-Sets.is

@@ -2,7 +2,6 @@ use mathlib.Core.Path.{sym, ◌∙◌}
 use Prim.Native.Nat.{◌-◌}
 use native.Mathlib.Omega.{arith}
 use lib.ListN.{get_or}
-use borrow.Author.Tests.{not-true, not-false}
 use Rattle.search_candidates.proofs.CaseLaws.{past-rows}
 use borrow.Author.Rules.{rules}
 use Rattle.search_candidates.proofs.LoopLaws.{each_start, each_next, each-fails, each-done}
@@ -14,7 +13,7 @@ loop-i-init c =
 
 pub overflow_cast-at : goal.overflow_cast-at
 overflow_cast-at c =
-    omega (arith, c.shared_slice_known-in-loop-i-1.given c.loop-i.i)
+    omega (arith, c.type_inv.numbers c.loop-i.i)
 
 pub returns-then-rows-at : goal.returns-then-rows-at
 returns-then-rows-at c =
@@ -22,11 +21,11 @@ returns-then-rows-at c =
 
 pub returns-then-not-row_allows : goal.returns-then-not-row_allows
 returns-then-not-row_allows c =
-    sym (each-fails _ _ _ _ _ _ _ c.loop-i-test.true c.loop-i.invariant.1 (sym c.row_allows.ensures ∙ not-true _ c.if-not-row_allows.true))
+    sym (each-fails _ _ _ _ _ _ _ c.loop-i-test.true c.loop-i.invariant.1 (sym c.row_allows.ensures ∙ c.if-not-row_allows.true-raw))
 
 pub loop-i-preserved : goal.loop-i-preserved
 loop-i-preserved c =
-    (search rules, each_next _ _ _ _ _ _ _ c.loop-i-test.true c.loop-i.invariant.1 (sym c.row_allows.ensures ∙ not-false _ c.if-not-row_allows.false))
+    (search rules, each_next _ _ _ _ _ _ _ c.loop-i-test.true c.loop-i.invariant.1 (sym c.row_allows.ensures ∙ c.if-not-row_allows.false-raw))
 
 pub returns : goal.returns
 returns c =

@@ -6,15 +6,15 @@ use Rattle.search_candidates.proofs.allow.row_allows.Goals as goal
 
 pub returns-in-1 : goal.returns-in-1
 returns-in-1 c =
-    ap (eqb _) c.right_of.ensures ∙ sym (allows_in_slot _ _ _ _ _ (sym c.kind_of.ensures ∙ c.in-1.keys1))
+    ap (eqb _) c.right_of.ensures ∙ sym (allows_in_slot _ _ _ _ _ (sym c.kind_of.ensures ∙ c.in-1.is))
 
 pub returns-in-2 : goal.returns-in-2
 returns-in-2 c =
-    rw c.right_of-in-2.ensures (sym (allows-not_in_slot _ _ _ _ _ (sym c.kind_of.ensures ∙ c.in-2.keys2)))
+    rw c.right_of-in-2.ensures (sym (allows-not_in_slot _ _ _ _ _ (sym c.kind_of.ensures ∙ c.in-2.is)))
 
 pub returns-in-6 : goal.returns-in-6
 returns-in-6 c =
-    c.room_allows.ensures ∙ sym (allows_limited_size _ _ _ _ _ (sym c.kind_of.ensures ∙ c.in-6.keys3))
+    c.room_allows.ensures ∙ sym (allows_limited_size _ _ _ _ _ (sym c.kind_of.ensures ∙ c.in-6.is))
 
 pub returns-in-3 : goal.returns-in-3
 returns-in-3 c =

@@ -1,17 +1,16 @@
 -- The numbers' rows refuse, or allow and it isn't the last choice, or the limits decide.
 use mathlib.Core.Path.{sym, ◌∙◌}
-use borrow.Author.Tests.{not-true, not-false}
 use Rattle.search_candidates.proofs.LoopLaws.{each-refuses, not_last, last_tested}
 use Rattle.search_candidates.proofs.allow.rows_allow.Goals as goal
 
 pub returns-then-not-each_allows : goal.returns-then-not-each_allows
 returns-then-not-each_allows c =
-    sym (each-refuses _ _ _ _ _ _ _ (sym c.each_allows.ensures ∙ not-true _ c.if-not-each_allows.true))
+    sym (each-refuses _ _ _ _ _ _ _ (sym c.each_allows.ensures ∙ c.if-not-each_allows.true-raw))
 
 pub returns-then-not-last : goal.returns-then-not-last
 returns-then-not-last c =
-    sym (not_last _ _ _ _ _ _ _ (not-true _ c.if-not-last.true) (sym c.each_allows.ensures ∙ not-false _ c.if-not-each_allows.false))
+    sym (not_last _ _ _ _ _ _ _ (c.if-not-last.true-raw) (sym c.each_allows.ensures ∙ c.if-not-each_allows.false-raw))
 
 pub returns : goal.returns
 returns c =
-    c.limits_hold.ensures ∙ sym (last_tested _ _ _ _ _ _ _ (not-false _ c.if-not-last.false) (sym c.each_allows.ensures ∙ not-false _ c.if-not-each_allows.false))
+    c.limits_hold.ensures ∙ sym (last_tested _ _ _ _ _ _ _ (c.if-not-last.false-raw) (sym c.each_allows.ensures ∙ c.if-not-each_allows.false-raw))

@@ -1,6 +1,5 @@
 use mathlib.Core.Path.{sym, ◌∙◌}
 use Prim.Native.Nat.{◌-◌}
-use borrow.Author.Tests.{not-true, not-false}
 use borrow.Author.Rules.{rules}
 use Rattle.search_candidates.proofs.LoopLaws.{limits-start, limits-next, limits_fail, limits-done}
 use Rattle.search_candidates.proofs.limits.limits_hold.Goals as goal
@@ -11,11 +10,11 @@ loop-i-init c =
 
 pub returns-then-not-limit_holds : goal.returns-then-not-limit_holds
 returns-then-not-limit_holds c =
-    sym (limits_fail _ _ _ _ c.loop-i-test.true c.loop-i.invariant.1 (sym c.limit_holds.ensures ∙ not-true _ c.if-not-limit_holds.true))
+    sym (limits_fail _ _ _ _ c.loop-i-test.true c.loop-i.invariant.1 (sym c.limit_holds.ensures ∙ c.if-not-limit_holds.true-raw))
 
 pub loop-i-preserved : goal.loop-i-preserved
 loop-i-preserved c =
-    (search rules, limits-next _ _ _ _ c.loop-i-test.true c.loop-i.invariant.1 (sym c.limit_holds.ensures ∙ not-false _ c.if-not-limit_holds.false))
+    (search rules, limits-next _ _ _ _ c.loop-i-test.true c.loop-i.invariant.1 (sym c.limit_holds.ensures ∙ c.if-not-limit_holds.false-raw))
 
 pub returns : goal.returns
 returns c =

@@ -11,7 +11,7 @@ pub slice_bounds-search-end-in-Numbers-3 : goal.slice_bounds-search-end-in-Numbe
 slice_bounds-search-end-in-Numbers-3 c = sym (length-take-le c.whole_length-size.result c.count_up-whole.result (omega (arith, c.whole_length-size.ensures, c.count_up-whole.ensures.0)))
 
 pub returns-in-Refused : goal.returns-in-Refused
-returns-in-Refused c = let s = c in (own-refused s.args.counts s.args.mins.now s.args.maxs.now s.args.optional.now s.args.levels.now s.args.preferences.now s.args.rows.now s.args.plan.now s.args.orders.now s.args.draws.now _ s.requires (c.row_Counts.ensures ∙ ap row_counts c.with_numbers.ensures) c.words-starts.result c.words-lengths.result c.map_numbers-numbers.result (pools-full c.words-starts.result c.words-lengths.result c.map_numbers-numbers.result (sym c.words-starts.ensures.0) (sym c.words-lengths.ensures.0) (sym c.map_numbers-numbers.ensures.0)) c.own_map-mapped.ensures c.mapped-1.given.1, tt)
+returns-in-Refused c = let s = c in (own-refused s.args.counts s.args.mins.now s.args.maxs.now s.args.optional.now s.args.levels.now s.args.preferences.now s.args.rows.now s.args.plan.now s.args.orders.now s.args.draws.now _ s.requires (c.row_counts.ensures ∙ ap row_counts c.with_numbers.ensures) c.words-starts.result c.words-lengths.result c.map_numbers-numbers.result (pools-full c.words-starts.result c.words-lengths.result c.map_numbers-numbers.result (sym c.words-starts.ensures.0) (sym c.words-lengths.ensures.0) (sym c.map_numbers-numbers.ensures.0)) c.own_map-mapped.ensures c.in-Refused.is, tt)
 
 pub returns-in-Numbers : goal.returns-in-Numbers
-returns-in-Numbers c = let s = c in own-searched s.args.counts s.args.mins.now s.args.maxs.now s.args.optional.now s.args.levels.now s.args.preferences.now s.args.rows.now s.args.plan.now s.args.orders.now s.args.draws.now _ s.requires (c.row_Counts.ensures ∙ ap row_counts c.with_numbers.ensures) c.words-starts.result c.words-lengths.result c.map_numbers-numbers.result (pools-full c.words-starts.result c.words-lengths.result c.map_numbers-numbers.result (sym c.words-starts.ensures.0) (sym c.words-lengths.ensures.0) (sym c.map_numbers-numbers.ensures.0)) c.own_map-mapped.ensures c.mapped-in-Numbers-1.given.1 refl c.with_numbers-in-Numbers.ensures c.full_by.ensures (whole_is s.args.rows.now c.count_up-whole.result c.whole_length-size.ensures c.count_up-whole.ensures.1) c.search.result c.search.ensures
+returns-in-Numbers c = let s = c in own-searched s.args.counts s.args.mins.now s.args.maxs.now s.args.optional.now s.args.levels.now s.args.preferences.now s.args.rows.now s.args.plan.now s.args.orders.now s.args.draws.now _ s.requires (c.row_counts.ensures ∙ ap row_counts c.with_numbers.ensures) c.words-starts.result c.words-lengths.result c.map_numbers-numbers.result (pools-full c.words-starts.result c.words-lengths.result c.map_numbers-numbers.result (sym c.words-starts.ensures.0) (sym c.words-lengths.ensures.0) (sym c.map_numbers-numbers.ensures.0)) c.own_map-mapped.ensures c.in-Numbers.is refl c.with_numbers-in-Numbers.ensures c.full_by.ensures (whole_is s.args.rows.now c.count_up-whole.result c.whole_length-size.ensures c.count_up-whole.ensures.1) c.search.result c.search.ensures

@@ -1,12 +1,11 @@
 -- A kind without the column, or what stands in it.
-use borrow.Author.Tests.{not-true, not-false}
 use Rattle.search_map.proofs.Entries.{no_left, left_is}
 use Rattle.search_map.proofs.entry.has_left.Goals as goal
 
 pub returns-then-not-names_left : goal.returns-then-not-names_left
 returns-then-not-names_left c =
-    no_left _ _ c.kind_of.ensures c.names_left.ensures (not-true _ c.if-not-names_left.true)
+    no_left _ _ c.kind_of.ensures c.names_left.ensures (c.if-not-names_left.true-raw)
 
 pub returns : goal.returns
 returns c =
-    left_is _ _ c.kind_of.ensures c.names_left.ensures (not-false _ c.if-not-names_left.false) c.left_of.ensures
+    left_is _ _ c.kind_of.ensures c.names_left.ensures (c.if-not-names_left.false-raw) c.left_of.ensures

@@ -8,8 +8,8 @@ returns-then-kind_of-eq-SLOT_HAS_LIMITED_SIZE c =
 
 pub returns-then-has_left : goal.returns-then-has_left
 returns-then-has_left c =
-    of_left _ _ c.kind_of.ensures c.if-kind_of-eq-SLOT_HAS_LIMITED_SIZE.false c.Has-left.ensures c.if-has_left.true
+    of_left _ _ c.kind_of.ensures c.if-kind_of-eq-SLOT_HAS_LIMITED_SIZE.false c.has_left.ensures c.if-has_left.true
 
 pub returns : goal.returns
 returns c =
-    of_right _ _ c.kind_of.ensures c.if-kind_of-eq-SLOT_HAS_LIMITED_SIZE.false c.Has-left.ensures c.if-has_left.false c.Has-right.ensures
+    of_right _ _ c.kind_of.ensures c.if-kind_of-eq-SLOT_HAS_LIMITED_SIZE.false c.has_left.ensures c.if-has_left.false c.has_right.ensures

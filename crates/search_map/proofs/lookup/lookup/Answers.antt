@@ -4,8 +4,8 @@ use Rattle.search_map.proofs.lookup.lookup.Goals as goal
 
 pub returns-in-Refused : goal.returns-in-Refused
 returns-in-Refused c =
-    lookup_refused _ _ _ _ c.judge-judged.ensures c.judged-1.given.1 c.number.ensures
+    lookup_refused _ _ _ _ c.judge-judged.ensures c.in-Refused.is c.number.ensures
 
 pub returns : goal.returns
 returns c =
-    lookup_found _ _ _ _ c.judge-judged.ensures c.enum_told-1.given.1 c.rows_of.ensures
+    lookup_found _ _ _ _ c.judge-judged.ensures c.in_default.is c.rows_of.ensures

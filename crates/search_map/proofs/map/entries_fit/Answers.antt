@@ -3,7 +3,6 @@ use mathlib.Core.Bool.{true}
 use Prim.Native.Nat.{◌-◌}
 use Rattle.base_lists.proofs.Below.{all_more, one-fails}
 use Rattle.base_lists.proofs.Through.{all_none, all_done}
-use borrow.Author.Tests.{not-true, not-false}
 use Rattle.search_map.specs.Map.{entry_fits}
 use borrow.Author.Rules.{rules}
 use Rattle.search_map.proofs.map.entries_fit.Goals as goal
@@ -14,11 +13,11 @@ loop-choice-init c =
 
 pub returns-then-not-entry_fits : goal.returns-then-not-entry_fits
 returns-then-not-entry_fits c =
-    sym (one-fails _ _ _ c.loop-choice-test.true (sym c.entry_fits.ensures ∙ not-true _ c.if-not-entry_fits.true))
+    sym (one-fails _ _ _ c.loop-choice-test.true (sym c.entry_fits.ensures ∙ c.if-not-entry_fits.true-raw))
 
 pub loop-choice-preserved : goal.loop-choice-preserved
 loop-choice-preserved c =
-    (search rules, all_more _ _ c.loop-choice.invariant.1 (sym c.entry_fits.ensures ∙ not-false _ c.if-not-entry_fits.false))
+    (search rules, all_more _ _ c.loop-choice.invariant.1 (sym c.entry_fits.ensures ∙ c.if-not-entry_fits.false-raw))
 
 pub returns : goal.returns
 returns c =

@@ -13,7 +13,7 @@ bounds-order-i c =
 
 pub offset_bounds-maxs-wide : goal.offset_bounds-maxs-wide
 offset_bounds-maxs-wide c =
-    omega (arith, c.wide.ensures.0, c.shared_slice_known-in-loop-i-1.given c.loop-i.i)
+    omega (arith, c.wide.ensures.0, c.type_inv.order c.loop-i.i)
 
 pub bounds-maxs-wide : goal.bounds-maxs-wide
 bounds-maxs-wide c =

@@ -2,24 +2,23 @@
 use mathlib.Core.Path.{sym, ◌∙◌}
 use mathlib.Core.Bool.{true}
 use mathlib.Core.List.{[]}
-use borrow.Author.Tests.{not-true, not-false}
 use Rattle.search_map.specs.Map.{map_of}
 use Rattle.search_pass.proofs.PlanLaws.{pass-not-taken, pass-walked, plan-fits, walk-taken}
 use Rattle.search_pass.proofs.pass.run_pass.Goals as goal
 
 pub returns-then-not-pass_fits : goal.returns-then-not-pass_fits
 returns-then-not-pass_fits c =
-    pass-not-taken _ _ _ _ _ _ _ _ _ _ _ _ _ _ _ c.pass_fits.ensures (not-true _ c.if-not-pass_fits.true)
+    pass-not-taken _ _ _ _ _ _ _ _ _ _ _ _ _ _ _ c.pass_fits.ensures (c.if-not-pass_fits.true-raw)
 
 pub walk_pass-requires : goal.walk_pass-requires
 walk_pass-requires c =
-    let h = sym c.pass_fits.ensures ∙ not-false _ c.if-not-pass_fits.false in
+    let h = sym c.pass_fits.ensures ∙ c.if-not-pass_fits.false-raw in
     (walk-taken _ _ _ _ _ _ _ _ _ _ _ _ h, plan-fits true _ _ _ _ [] (map_of [] [] []) [] _ [] [] _ h)
 
 pub shape_of-plan : goal.shape_of-plan
 shape_of-plan c =
-    c.walk_pass.auto.1.1.1.1.1.1.1.1.1.1.1.1.1.1.1.0
+    c.walk_pass.auto.plan
 
 pub returns : goal.returns
 returns c =
-    pass-walked _ _ _ _ _ _ _ _ _ _ _ _ _ _ _ c.pass_fits.ensures _ (not-false _ c.if-not-pass_fits.false) c.walk_pass.ensures
+    pass-walked _ _ _ _ _ _ _ _ _ _ _ _ _ _ _ c.pass_fits.ensures _ (c.if-not-pass_fits.false-raw) c.walk_pass.ensures

@@ -16,23 +16,23 @@ loop-left-init c =
 
 pub enum_told-1 : goal.enum_told-1
 enum_told-1 c =
-    c.in-Goal.keys1
+    c.in-Goal.in-Goal-own.keys1
 
 pub enum_told-in-Over : goal.enum_told-in-Over
 enum_told-in-Over c =
-    c.in-Over.keys2
+    c.in-Over.in-Over-own.keys2
 
 pub returns-in-Over : goal.returns-in-Over
 returns-in-Over c =
-    at-over _ _ _ _ _ _ _ _ _ _ _ c.loop-left.invariant.0 c.loop-left.invariant.1 _ (sym (ap sight_tells c.enum_told-in-Over-1.given.1) ∙ c.sight_at.ensures)
+    at-over _ _ _ _ _ _ _ _ _ _ _ c.loop-left.invariant.0 c.loop-left.invariant.1 _ (sym (ap sight_tells c.in-Over.is) ∙ c.sight_at.ensures)
 
 pub enum_told-in-On : goal.enum_told-in-On
 enum_told-in-On c =
-    c.in-On.keys3
+    c.in-On.in-On-own.keys3
 
 pub returns-then-left-eq0 : goal.returns-then-left-eq0
 returns-then-left-eq0 c =
-    at_cut _ _ _ _ _ _ _ _ _ _ _ c.loop-left.invariant.0 c.loop-left.invariant.1 _ (omega (arith, c.if-left-eq0.true)) (sym (ap sight_tells c.enum_told-in-On-1.given.1) ∙ c.sight_at.ensures)
+    at_cut _ _ _ _ _ _ _ _ _ _ _ c.loop-left.invariant.0 c.loop-left.invariant.1 _ (omega (arith, c.if-left-eq0.true)) (sym (ap sight_tells c.in-On.is) ∙ c.sight_at.ensures)
 
 pub overflow_sub-left : goal.overflow_sub-left
 overflow_sub-left c =
@@ -52,7 +52,7 @@ slice_bounds-open_if_new-end-in-loop-left-6 c =
 
 pub returns-then-closes : goal.returns-then-closes
 returns-then-closes c =
-    at_closing _ _ _ _ _ _ _ _ c.loop-left.invariant.0 c.loop-left.invariant.1 _ _ _ _ c.open_if_new-draw.auto.1.1.1.1.1.1.1.1.1.1.1.1.1.1.1.1.1.1.1.1.0 c.open_if_new-draw.ensures _ _ (sym (ap sight_tells c.enum_told-in-On-1.given.1) ∙ c.sight_at.ensures) (omega (arith, c.if-left-eq0.false)) c.closes.ensures c.if-closes.true
+    at_closing _ _ _ _ _ _ _ _ c.loop-left.invariant.0 c.loop-left.invariant.1 _ _ _ _ c.open_if_new-draw.auto.candidates c.open_if_new-draw.ensures _ _ (sym (ap sight_tells c.in-On.is) ∙ c.sight_at.ensures) (omega (arith, c.if-left-eq0.false)) c.closes.ensures c.if-closes.true
 
 pub loop-left-smaller : goal.loop-left-smaller
 loop-left-smaller c =
@@ -60,12 +60,12 @@ loop-left-smaller c =
 
 pub loop-left-preserved : goal.loop-left-preserved
 loop-left-preserved c =
-    (at_turn _ _ _ _ _ _ _ _ c.loop-left.invariant.0 c.loop-left.invariant.1 _ _ _ _ c.open_if_new-draw.auto.1.1.1.1.1.1.1.1.1.1.1.1.1.1.1.1.1.1.1.1.0 c.open_if_new-draw.ensures _ c.closes.ensures c.if-closes.false (λ i. omega (arith, c.shared_slice_known-1.given i)) (λ i. omega (arith, c.shared_slice_known-2-1.given i)) _ _ (sym (ap sight_tells c.enum_told-in-On-1.given.1) ∙ c.sight_at.ensures) (omega (arith, c.if-left-eq0.false)) c.turned-state.ensures, c.loop-left.invariant.1)
+    (at_turn _ _ _ _ _ _ _ _ c.loop-left.invariant.0 c.loop-left.invariant.1 _ _ _ _ c.open_if_new-draw.auto.candidates c.open_if_new-draw.ensures _ c.closes.ensures c.if-closes.false (λ i. omega (arith, c.type_inv.mins i)) (λ i. omega (arith, c.type_inv.maxs i)) _ _ (sym (ap sight_tells c.in-On.is) ∙ c.sight_at.ensures) (omega (arith, c.if-left-eq0.false)) c.turned-state.ensures, c.loop-left.invariant.1)
 
 pub shape_of-plan : goal.shape_of-plan
 shape_of-plan c =
-    c.write_plan.auto.1.0
+    c.write_plan.auto.plan
 
 pub returns : goal.returns
 returns c =
-    at-goal _ _ _ _ _ _ _ _ _ _ _ c.loop-left.invariant.0 c.loop-left.invariant.1 _ _ (sym (ap sight_tells c.enum_told-1.given.1) ∙ c.sight_at.ensures) (plan-written _ c.loop-left.invariant.1 _ _ _ c.loop-left.invariant.0.counted.entries c.requires.1 c.write_plan.ensures)
+    at-goal _ _ _ _ _ _ _ _ _ _ _ c.loop-left.invariant.0 c.loop-left.invariant.1 _ _ (sym (ap sight_tells c.in-Goal.is) ∙ c.sight_at.ensures) (plan-written _ c.loop-left.invariant.1 _ _ _ c.loop-left.invariant.0.counted.entries c.requires.1 c.write_plan.ensures)

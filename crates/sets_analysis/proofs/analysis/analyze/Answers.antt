@@ -5,19 +5,19 @@ use Rattle.sets_analysis.proofs.analysis.analyze.Goals as goal
 
 pub returns-in-Refused : goal.returns-in-Refused
 returns-in-Refused c =
-    call_refused _ _ _ _ _ c.judge-judged.ensures c.judged-1.given.1
+    call_refused _ _ _ _ _ c.judge-judged.ensures c.in-Refused.is
 
 pub clear_past-requires : goal.clear_past-requires
 clear_past-requires c =
-    (good-fits _ c.args.analysis _ _ _ c.judge-judged.ensures c.enum_told-1.given.1).0
+    (good-fits _ c.args.analysis _ _ _ c.judge-judged.ensures c.in_default.is).0
 
 pub analyze_day-requires : goal.analyze_day-requires
 analyze_day-requires c =
-    good-fits _ c.args.analysis _ _ _ c.judge-judged.ensures c.enum_told-1.given.1
+    good-fits _ c.args.analysis _ _ _ c.judge-judged.ensures c.in_default.is
 
 pub analyze_day-requires-in-Simplified : goal.analyze_day-requires-in-Simplified
 analyze_day-requires-in-Simplified c =
-    good-fits _ c.args.analysis _ _ _ c.judge-judged.ensures c.enum_told-1.given.1
+    good-fits _ c.args.analysis _ _ _ c.judge-judged.ensures c.in_default.is
 
 pub shape_of-masks-in-Off : goal.shape_of-masks-in-Off
 shape_of-masks-in-Off c = omega (arith, c.masks-1.given)
@@ -27,7 +27,7 @@ shape_of-set_levels-in-Off c = omega (arith, c.set_levels-1.given)
 
 pub returns-in-Off : goal.returns-in-Off
 returns-in-Off c =
-    call_off _ _ _ _ _ c.judge-judged.ensures c.enum_told-1.given.1 c.enum_told-in-Off-1.given.1 c.clear_past.ensures
+    call_off _ _ _ _ _ c.judge-judged.ensures c.in_default.is c.in-Off.is c.clear_past.ensures
 
 pub shape_of-masks-in-On : goal.shape_of-masks-in-On
 shape_of-masks-in-On c = omega (arith, c.masks-in-On-1.given)
@@ -37,7 +37,7 @@ shape_of-set_levels-in-On c = omega (arith, c.set_levels-in-On-1.given)
 
 pub returns-in-On : goal.returns-in-On
 returns-in-On c =
-    call_on _ _ _ _ _ c.judge-judged.ensures c.enum_told-1.given.1 c.enum_told-in-On-1.given.1 c.analyze_day.ensures
+    call_on _ _ _ _ _ c.judge-judged.ensures c.in_default.is c.in-On.is c.analyze_day.ensures
 
 pub shape_of-masks-in-Simplified : goal.shape_of-masks-in-Simplified
 shape_of-masks-in-Simplified c = omega (arith, c.masks-in-Simplified-1.given)
@@ -47,4 +47,4 @@ shape_of-set_levels-in-Simplified c = omega (arith, c.set_levels-in-Simplified-1
 
 pub returns-in-Simplified : goal.returns-in-Simplified
 returns-in-Simplified c =
-    call_simplified _ _ _ _ _ c.judge-judged.ensures c.enum_told-1.given.1 c.enum_told-in-Simplified-1.given.1 c.analyze_day-in-Simplified.ensures
+    call_simplified _ _ _ _ _ c.judge-judged.ensures c.in_default.is c.in-Simplified.is c.analyze_day-in-Simplified.ensures

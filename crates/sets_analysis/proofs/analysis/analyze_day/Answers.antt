@@ -24,7 +24,7 @@ shape_of-set_levels-then-kept-gt-MOST_SETS c =
 
 pub returns-then-kept-gt-MOST_SETS : goal.returns-then-kept-gt-MOST_SETS
 returns-then-kept-gt-MOST_SETS c =
-    day-over _ _ _ _ _ c.Kept-sets.ensures c.if-kept-gt-MOST_SETS.true c.clear_past.ensures
+    day-over _ _ _ _ _ c.kept_sets-kept.ensures c.if-kept-gt-MOST_SETS.true c.clear_past.ensures
 
 pub simplified_if-count-requires : goal.simplified_if-count-requires
 simplified_if-count-requires c =
@@ -62,7 +62,7 @@ shape_of-set_levels c =
 
 pub returns : goal.returns
 returns c =
-    day-answer _ _ _ _ _ _ _ _ _ c.Kept-sets.ensures c.if-kept-gt-MOST_SETS.false c.simplified_if-count.ensures c.bound_of-bound.ensures (record {
+    day-answer _ _ _ _ _ _ _ _ _ c.kept_sets-kept.ensures c.if-kept-gt-MOST_SETS.false c.simplified_if-count.ensures c.bound_of-bound.ensures (record {
       masks-full = omega (arith, c.masks-2-1.given, c.masks-1.given, c.requires.0.masks-full);
       levels-full = omega (arith, c.set_levels-2-1.given, c.set_levels-1.given, c.requires.0.levels-full);
       few = omega (arith, c.simplified_if-count.ensures.0, c.if-kept-gt-MOST_SETS.false);

@@ -6,6 +6,6 @@ use Rattle.sets_analysis.proofs.analysis.clear_past.Goals as goal
 pub returns : goal.returns
 returns c =
     let s = c in (
-      cleared-part s.args.count s.args.masks.now c.clear_numbers.new.0 (omega (arith, s.requires.few, s.requires.masks-full)) s.requires.masks-full c.clear_numbers.ensures,
-      cleared-part s.args.count s.args.levels.now c.clear_words.new.0 (omega (arith, s.requires.few, s.requires.levels-full)) s.requires.levels-full c.clear_words.ensures,
+      cleared-part s.args.count s.args.masks.now c.clear_numbers.new.numbers (omega (arith, s.requires.few, s.requires.masks-full)) s.requires.masks-full c.clear_numbers.ensures,
+      cleared-part s.args.count s.args.levels.now c.clear_words.new.words (omega (arith, s.requires.few, s.requires.levels-full)) s.requires.levels-full c.clear_words.ensures,
     )

@@ -1,36 +1,35 @@
 -- Each refusal where the tests before it hold and its own does not.
 use mathlib.Core.Path.{sym, ◌∙◌}
 use mathlib.Core.Bool.{true}
-use borrow.Author.Tests.{not-true, not-false}
 use Rattle.sets_analysis.proofs.CallSteps.{judged-count, judged-lengths, judged-masks, judged-levels, judged-rise, judged_preference, judged-good}
 use Rattle.sets_analysis.proofs.analysis.judge.Goals as goal
 
 pub returns-then-not-counts_keep : goal.returns-then-not-counts_keep
-returns-then-not-counts_keep c = judged-count _ _ _ (sym c.counts_keep.ensures ∙ not-true _ c.if-not-counts_keep.true)
+returns-then-not-counts_keep c = judged-count _ _ _ (sym c.counts_keep.ensures ∙ c.if-not-counts_keep.true-raw)
 
 pub lengths_keep-requires : goal.lengths_keep-requires
-lengths_keep-requires c = sym c.counts_keep.ensures ∙ not-false _ c.if-not-counts_keep.false
+lengths_keep-requires c = sym c.counts_keep.ensures ∙ c.if-not-counts_keep.false-raw
 
 pub returns-then-not-lengths_keep : goal.returns-then-not-lengths_keep
 returns-then-not-lengths_keep c =
-    judged-lengths _ _ _ (sym c.counts_keep.ensures ∙ not-false _ c.if-not-counts_keep.false) (sym c.lengths_keep.ensures ∙ not-true _ c.if-not-lengths_keep.true)
+    judged-lengths _ _ _ (sym c.counts_keep.ensures ∙ c.if-not-counts_keep.false-raw) (sym c.lengths_keep.ensures ∙ c.if-not-lengths_keep.true-raw)
 
 pub returns-then-masks-ne-MOST_SETS : goal.returns-then-masks-ne-MOST_SETS
 returns-then-masks-ne-MOST_SETS c =
-    judged-masks _ _ _ (sym c.counts_keep.ensures ∙ not-false _ c.if-not-counts_keep.false) (sym c.lengths_keep.ensures ∙ not-false _ c.if-not-lengths_keep.false) c.if-masks-ne-MOST_SETS.true
+    judged-masks _ _ _ (sym c.counts_keep.ensures ∙ c.if-not-counts_keep.false-raw) (sym c.lengths_keep.ensures ∙ c.if-not-lengths_keep.false-raw) c.if-masks-ne-MOST_SETS.true
 
 pub returns-then-set_levels-ne-MOST_SETS : goal.returns-then-set_levels-ne-MOST_SETS
 returns-then-set_levels-ne-MOST_SETS c =
-    judged-levels _ _ _ (sym c.counts_keep.ensures ∙ not-false _ c.if-not-counts_keep.false) (sym c.lengths_keep.ensures ∙ not-false _ c.if-not-lengths_keep.false) c.if-masks-ne-MOST_SETS.false c.if-set_levels-ne-MOST_SETS.true
+    judged-levels _ _ _ (sym c.counts_keep.ensures ∙ c.if-not-counts_keep.false-raw) (sym c.lengths_keep.ensures ∙ c.if-not-lengths_keep.false-raw) c.if-masks-ne-MOST_SETS.false c.if-set_levels-ne-MOST_SETS.true
 
 pub returns-then-not-levels_rise : goal.returns-then-not-levels_rise
 returns-then-not-levels_rise c =
-    judged-rise _ _ _ (sym c.counts_keep.ensures ∙ not-false _ c.if-not-counts_keep.false) (sym c.lengths_keep.ensures ∙ not-false _ c.if-not-lengths_keep.false) c.if-masks-ne-MOST_SETS.false c.if-set_levels-ne-MOST_SETS.false (sym c.levels_rise.ensures ∙ not-true _ c.if-not-levels_rise.true)
+    judged-rise _ _ _ (sym c.counts_keep.ensures ∙ c.if-not-counts_keep.false-raw) (sym c.lengths_keep.ensures ∙ c.if-not-lengths_keep.false-raw) c.if-masks-ne-MOST_SETS.false c.if-set_levels-ne-MOST_SETS.false (sym c.levels_rise.ensures ∙ c.if-not-levels_rise.true-raw)
 
 pub returns-then-not-preferences_keep : goal.returns-then-not-preferences_keep
 returns-then-not-preferences_keep c =
-    judged_preference _ _ _ (sym c.counts_keep.ensures ∙ not-false _ c.if-not-counts_keep.false) (sym c.lengths_keep.ensures ∙ not-false _ c.if-not-lengths_keep.false) c.if-masks-ne-MOST_SETS.false c.if-set_levels-ne-MOST_SETS.false (sym c.levels_rise.ensures ∙ not-false _ c.if-not-levels_rise.false) _ c.last_level.ensures (sym c.preferences_keep.ensures ∙ not-true _ c.if-not-preferences_keep.true)
+    judged_preference _ _ _ (sym c.counts_keep.ensures ∙ c.if-not-counts_keep.false-raw) (sym c.lengths_keep.ensures ∙ c.if-not-lengths_keep.false-raw) c.if-masks-ne-MOST_SETS.false c.if-set_levels-ne-MOST_SETS.false (sym c.levels_rise.ensures ∙ c.if-not-levels_rise.false-raw) _ c.last_level.ensures (sym c.preferences_keep.ensures ∙ c.if-not-preferences_keep.true-raw)
 
 pub returns : goal.returns
 returns c =
-    judged-good _ _ _ (sym c.counts_keep.ensures ∙ not-false _ c.if-not-counts_keep.false) (sym c.lengths_keep.ensures ∙ not-false _ c.if-not-lengths_keep.false) c.if-masks-ne-MOST_SETS.false c.if-set_levels-ne-MOST_SETS.false (sym c.levels_rise.ensures ∙ not-false _ c.if-not-levels_rise.false) _ c.last_level.ensures (sym c.preferences_keep.ensures ∙ not-false _ c.if-not-preferences_keep.false)
+    judged-good _ _ _ (sym c.counts_keep.ensures ∙ c.if-not-counts_keep.false-raw) (sym c.lengths_keep.ensures ∙ c.if-not-lengths_keep.false-raw) c.if-masks-ne-MOST_SETS.false c.if-set_levels-ne-MOST_SETS.false (sym c.levels_rise.ensures ∙ c.if-not-levels_rise.false-raw) _ c.last_level.ensures (sym c.preferences_keep.ensures ∙ c.if-not-preferences_keep.false-raw)

@@ -1,6 +1,5 @@
 -- No level over the bound lowers it; of the others those that do.
 use mathlib.Core.Path.{sym, ◌∙◌}
-use borrow.Author.Tests.{not-true, not-false}
 use Rattle.sets_analysis.proofs.BoundSteps.{bound-low, bound-kept, bound_lowered}
 use Rattle.sets_analysis.proofs.bound.lowered.Goals as goal
 
@@ -8,8 +7,8 @@ pub returns-then-bound-level : goal.returns-then-bound-level
 returns-then-bound-level c = bound-low _ _ _ _ c.if-bound-level.true
 
 pub returns-then-not-lowers_bound : goal.returns-then-not-lowers_bound
-returns-then-not-lowers_bound c = bound-kept _ _ _ _ (sym c.lowers_bound.ensures ∙ not-true _ c.if-not-lowers_bound.true)
+returns-then-not-lowers_bound c = bound-kept _ _ _ _ (sym c.lowers_bound.ensures ∙ c.if-not-lowers_bound.true-raw)
 
 pub returns : goal.returns
 returns c =
-    bound_lowered _ _ _ _ c.if-bound-level.false (sym c.lowers_bound.ensures ∙ not-false _ c.if-not-lowers_bound.false)
+    bound_lowered _ _ _ _ c.if-bound-level.false (sym c.lowers_bound.ensures ∙ c.if-not-lowers_bound.false-raw)

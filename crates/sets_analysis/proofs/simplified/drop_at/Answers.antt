@@ -1,7 +1,6 @@
 use mathlib.Core.Path.{sym, ◌∙◌}
 use Prim.Native.Nat.{◌-◌}
 use native.Mathlib.Omega.{arith}
-use borrow.Author.Tests.{not-true, not-false}
 use Rattle.sets_analysis.proofs.SimplifiedSteps.{drops_start, drops_out, drops_in, drops_done}
 use Rattle.sets_analysis.proofs.simplified.drop_at.Goals as goal
 
@@ -10,11 +9,11 @@ loop-i-init c = drops_start _ _ _ _
 
 pub loop-i-preserved-then-not-stays_beside : goal.loop-i-preserved-then-not-stays_beside
 loop-i-preserved-then-not-stays_beside c =
-    drops_out _ _ _ _ _ _ _ _ c.loop-i.invariant c.loop-i-test.true (sym c.stays_beside.ensures ∙ not-true _ c.if-not-stays_beside.true)
+    drops_out _ _ _ _ _ _ _ _ c.loop-i.invariant c.loop-i-test.true (sym c.stays_beside.ensures ∙ c.if-not-stays_beside.true-raw)
 
 pub loop-i-preserved : goal.loop-i-preserved
 loop-i-preserved c =
-    drops_in _ _ _ _ _ _ _ _ c.loop-i.invariant c.loop-i-test.true (omega (arith, c.requires.0.few, c.requires.0.masks-full)) (omega (arith, c.requires.0.few, c.requires.0.levels-full)) (sym c.stays_beside.ensures ∙ not-false _ c.if-not-stays_beside.false)
+    drops_in _ _ _ _ _ _ _ _ c.loop-i.invariant c.loop-i-test.true (omega (arith, c.requires.0.few, c.requires.0.masks-full)) (omega (arith, c.requires.0.few, c.requires.0.levels-full)) (sym c.stays_beside.ensures ∙ c.if-not-stays_beside.false-raw)
 
 pub shape_of-masks : goal.shape_of-masks
 shape_of-masks c = c.loop-i.invariant.same-masks
