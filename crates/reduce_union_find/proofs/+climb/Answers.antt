@@ -6,7 +6,7 @@ use Rattle.reduce_union_find.proofs.+climb.Goals as goal
 
 pub bounds-parents-element : goal.bounds-parents-element
 bounds-parents-element t c =
-    let h = c.requires.1 in
+    let h = c.requires in
     rw h.0 (ends_in _ _ _ h.1)
 
 pub returns-then-parent-eq255 : goal.returns-then-parent-eq255
@@ -14,18 +14,18 @@ returns-then-parent-eq255 t c = sym (climb-here _ _ _ (sym c.wide-parent.ensures
 
 pub overflow_add-steps : goal.overflow_add-steps
 overflow_add-steps t c =
-    let k = next _ _ _ c.requires.1.1 (λ z. c.if-parent-eq255.false (c.wide-parent.ensures.0 ∙ z)) in
+    let k = next _ _ _ c.requires.1 (λ z. c.if-parent-eq255.false (c.wide-parent.ensures.0 ∙ z)) in
     omega (arith, k.room)
 
 pub climb-requires : goal.climb-requires
 climb-requires t c =
-    let h = c.requires.1 in
+    let h = c.requires in
     let e = c.wide-parent.ensures.0 in
     let k = next _ _ _ h.1 (λ z. c.if-parent-eq255.false (e ∙ z)) in
-    (omega (arith, k.room, c.requires.0), (h.0, rw e k.ends))
+    (omega (arith, k.room, c.decreases), (h.0, rw e k.ends))
 
 pub returns : goal.returns
 returns t c =
-    let h = c.requires.1 in
+    let h = c.requires in
     let e = c.wide-parent.ensures.0 in
     c.climb.ensures ∙ rw e (next _ _ _ h.1 (λ z. c.if-parent-eq255.false (e ∙ z))).same

@@ -12,7 +12,7 @@ returns-then-left-eq0 t c =
 pub fits-requires : goal.fits-requires
 fits-requires t c =
     let s = c in
-    (s.requires.1, omega (arith, c.place_at-place.ensures))
+    (s.requires, omega (arith, c.place_at-place.ensures))
 
 pub returns-then-fits : goal.returns-then-fits
 returns-then-fits t c =
@@ -25,7 +25,7 @@ overflow_sub-left t c =
 pub first_open-requires : goal.first_open-requires
 first_open-requires t c =
     let s = c in
-    (omega (arith, s.requires.0, pos_of_ne-zero c.if-left-eq0.false), s.requires.1)
+    (omega (arith, s.decreases, pos_of_ne-zero c.if-left-eq0.false), s.requires)
 
 pub returns : goal.returns
 returns t c =
