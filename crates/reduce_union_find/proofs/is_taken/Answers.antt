@@ -16,10 +16,10 @@ unfolding all_below
 loop-i-init c = (search rules, c.if-choices-gt64.false, refl)
 
 pub returns-then-not-is_sound : goal.returns-then-not-is_sound
-returns-then-not-is_sound c = sym (taken_unsound _ _ _ c.loop-i-test.true (sym c.is_sound.ensures ∙ c.if-not-is_sound.true-raw))
+returns-then-not-is_sound c = sym (taken_unsound _ _ _ c.loop-i-test.true (sym c.is_sound.ensures ∙ c.if-not-is_sound.true))
 
 pub loop-i-preserved : goal.loop-i-preserved
-loop-i-preserved c = (search rules, search rules, all_more _ _ c.loop-i.invariant.2 (sym c.is_sound.ensures ∙ c.if-not-is_sound.false-raw))
+loop-i-preserved c = (search rules, search rules, all_more _ _ c.loop-i.invariant.2 (sym c.is_sound.ensures ∙ c.if-not-is_sound.false))
 
 pub returns : goal.returns
 returns c =

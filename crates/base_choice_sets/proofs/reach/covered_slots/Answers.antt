@@ -9,11 +9,11 @@ loop-slot-init c = (search rules, search rules, covered_start _ _)
 
 pub loop-slot-preserved-then-not-meet : goal.loop-slot-preserved-then-not-meet
 loop-slot-preserved-then-not-meet c =
-    (search rules, search rules, covered_past _ _ _ _ c.loop-slot.invariant.2 (sym c.meet.ensures ∙ c.if-not-meet.true-raw))
+    (search rules, search rules, covered_past _ _ _ _ c.loop-slot.invariant.2 (sym c.meet.ensures ∙ c.if-not-meet.true))
 
 pub loop-slot-preserved : goal.loop-slot-preserved
 loop-slot-preserved c =
-    (search rules, search rules, covered_on _ _ _ _ c.loop-slot.invariant.2 (sym c.meet.ensures ∙ c.if-not-meet.false-raw))
+    (search rules, search rules, covered_on _ _ _ _ c.loop-slot.invariant.2 (sym c.meet.ensures ∙ c.if-not-meet.false))
 
 pub returns : goal.returns
 returns c =

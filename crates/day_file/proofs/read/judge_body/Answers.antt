@@ -7,7 +7,7 @@ use Rattle.day_file.proofs.read.judge_body.Goals as goal
 
 pub returns-then-not-optional_in : goal.returns-then-not-optional_in
 returns-then-not-optional_in c =
-    body_optional _ _ c.places-places.ensures c.optional_in.ensures (c.if-not-optional_in.true-raw)
+    body_optional _ _ c.places-places.ensures c.optional_in.ensures (c.if-not-optional_in.true)
 
 pub levels_in-requires : goal.levels_in-requires
 levels_in-requires c =
@@ -15,7 +15,7 @@ levels_in-requires c =
 
 pub returns-then-not-levels_in : goal.returns-then-not-levels_in
 returns-then-not-levels_in c =
-    body_levels _ _ c.places-places.ensures c.optional_in.ensures (c.if-not-optional_in.false-raw) c.levels_in.ensures (c.if-not-levels_in.true-raw)
+    body_levels _ _ c.places-places.ensures c.optional_in.ensures (c.if-not-optional_in.false) c.levels_in.ensures (c.if-not-levels_in.true)
 
 pub overflow_sub-places : goal.overflow_sub-places
 overflow_sub-places c =
@@ -33,7 +33,7 @@ preferences_in-requires c =
 
 pub returns-then-not-preferences_in : goal.returns-then-not-preferences_in
 returns-then-not-preferences_in c =
-    body_preference _ _ c.places-places.ensures c.optional_in.ensures (c.if-not-optional_in.false-raw) c.levels_in.ensures (c.if-not-levels_in.false-raw) (within c.requires.0 c.requires.1 c.places-places.ensures) c.word_at-last.ensures c.preferences_in.ensures (c.if-not-preferences_in.true-raw)
+    body_preference _ _ c.places-places.ensures c.optional_in.ensures (c.if-not-optional_in.false) c.levels_in.ensures (c.if-not-levels_in.false) (within c.requires.0 c.requires.1 c.places-places.ensures) c.word_at-last.ensures c.preferences_in.ensures (c.if-not-preferences_in.true)
 
 pub rows_in-requires : goal.rows_in-requires
 rows_in-requires c =
@@ -41,4 +41,4 @@ rows_in-requires c =
 
 pub returns : goal.returns
 returns c =
-    body_rows _ _ c.places-places.ensures c.optional_in.ensures (c.if-not-optional_in.false-raw) c.levels_in.ensures (c.if-not-levels_in.false-raw) (within c.requires.0 c.requires.1 c.places-places.ensures) c.word_at-last.ensures c.preferences_in.ensures (c.if-not-preferences_in.false-raw) c.for_rows.ensures c.rows_in.ensures
+    body_rows _ _ c.places-places.ensures c.optional_in.ensures (c.if-not-optional_in.false) c.levels_in.ensures (c.if-not-levels_in.false) (within c.requires.0 c.requires.1 c.places-places.ensures) c.word_at-last.ensures c.preferences_in.ensures (c.if-not-preferences_in.false) c.for_rows.ensures c.rows_in.ensures

@@ -17,16 +17,16 @@ returns-then-file-ne1 c =
 
 pub returns-then-not-in_range : goal.returns-then-not-in_range
 returns-then-not-in_range c =
-    head-counts _ c.if-file-lt11.false c.length_in.ensures (c.if-length_in-rest_of.false ∙ c.rest_of.ensures) c.if-file-ne1.false c.counts_in-counts.ensures c.in_range.ensures (c.if-not-in_range.true-raw)
+    head-counts _ c.if-file-lt11.false c.length_in.ensures (c.if-length_in-rest_of.false ∙ c.rest_of.ensures) c.if-file-ne1.false c.counts_in-counts.ensures c.in_range.ensures (c.if-not-in_range.true)
 
 pub places-requires : goal.places-requires
 places-requires c =
-    sym c.in_range.ensures ∙ c.if-not-in_range.false-raw
+    sym c.in_range.ensures ∙ c.if-not-in_range.false
 
 pub returns-then-places-file : goal.returns-then-places-file
 returns-then-places-file c =
-    head_body _ c.if-file-lt11.false c.length_in.ensures (c.if-length_in-rest_of.false ∙ c.rest_of.ensures) c.if-file-ne1.false c.counts_in-counts.ensures c.in_range.ensures (c.if-not-in_range.false-raw) c.places.ensures c.if-places-file.true
+    head_body _ c.if-file-lt11.false c.length_in.ensures (c.if-length_in-rest_of.false ∙ c.rest_of.ensures) c.if-file-ne1.false c.counts_in-counts.ensures c.in_range.ensures (c.if-not-in_range.false) c.places.ensures c.if-places-file.true
 
 pub returns : goal.returns
 returns c =
-    head-good _ c.if-file-lt11.false c.length_in.ensures (c.if-length_in-rest_of.false ∙ c.rest_of.ensures) c.if-file-ne1.false c.counts_in-counts.ensures c.in_range.ensures (c.if-not-in_range.false-raw) c.places.ensures c.if-places-file.false
+    head-good _ c.if-file-lt11.false c.length_in.ensures (c.if-length_in-rest_of.false ∙ c.rest_of.ensures) c.if-file-ne1.false c.counts_in-counts.ensures c.in_range.ensures (c.if-not-in_range.false) c.places.ensures c.if-places-file.false

@@ -8,25 +8,25 @@ use Rattle.day_file.proofs.read.read_day.Goals as goal
 pub returns-then-not-pools_full : goal.returns-then-not-pools_full
 returns-then-not-pools_full c =
     let s = c in
-    read_short _ (parts s.args.mins.now s.args.maxs.now s.args.optional.now s.args.levels.now s.args.preferences.now s.args.rows.now) c.pools_full.ensures (c.if-not-pools_full.true-raw)
+    read_short _ (parts s.args.mins.now s.args.maxs.now s.args.optional.now s.args.levels.now s.args.preferences.now s.args.rows.now) c.pools_full.ensures (c.if-not-pools_full.true)
 
 pub returns-in-Refused : goal.returns-in-Refused
 returns-in-Refused c =
     let s = c in
-    read-refused _ (parts s.args.mins.now s.args.maxs.now s.args.optional.now s.args.levels.now s.args.preferences.now s.args.rows.now) c.pools_full.ensures (c.if-not-pools_full.false-raw) c.judge_file-judged.ensures (ap checked_tells c.in-Refused.is)
+    read-refused _ (parts s.args.mins.now s.args.maxs.now s.args.optional.now s.args.levels.now s.args.preferences.now s.args.rows.now) c.pools_full.ensures (c.if-not-pools_full.false) c.judge_file-judged.ensures (ap checked_tells c.in-Refused.is)
 
 pub counts_in-counts-requires : goal.counts_in-counts-requires
 counts_in-counts-requires c =
     let s = c in
-    (read_head _ (parts s.args.mins.now s.args.maxs.now s.args.optional.now s.args.levels.now s.args.preferences.now s.args.rows.now) c.pools_full.ensures (c.if-not-pools_full.false-raw) c.judge_file-judged.ensures (ap checked_tells c.in_default.is)).long
+    (read_head _ (parts s.args.mins.now s.args.maxs.now s.args.optional.now s.args.levels.now s.args.preferences.now s.args.rows.now) c.pools_full.ensures (c.if-not-pools_full.false) c.judge_file-judged.ensures (ap checked_tells c.in_default.is)).long
 
 pub fill_pools-requires : goal.fill_pools-requires
 fill_pools-requires c =
     let s = c in
-    let h = read_head _ (parts s.args.mins.now s.args.maxs.now s.args.optional.now s.args.levels.now s.args.preferences.now s.args.rows.now) c.pools_full.ensures (c.if-not-pools_full.false-raw) c.judge_file-judged.ensures (ap checked_tells c.in_default.is) in
-    (counts-keep _ h c.counts_in-counts.ensures, (counts_end _ h c.counts_in-counts.ensures, sym c.pools_full.ensures ∙ c.if-not-pools_full.false-raw))
+    let h = read_head _ (parts s.args.mins.now s.args.maxs.now s.args.optional.now s.args.levels.now s.args.preferences.now s.args.rows.now) c.pools_full.ensures (c.if-not-pools_full.false) c.judge_file-judged.ensures (ap checked_tells c.in_default.is) in
+    (counts-keep _ h c.counts_in-counts.ensures, (counts_end _ h c.counts_in-counts.ensures, sym c.pools_full.ensures ∙ c.if-not-pools_full.false))
 
 pub returns : goal.returns
 returns c =
     let s = c in
-    read-good _ (parts s.args.mins.now s.args.maxs.now s.args.optional.now s.args.levels.now s.args.preferences.now s.args.rows.now) c.pools_full.ensures (c.if-not-pools_full.false-raw) c.judge_file-judged.ensures (ap checked_tells c.in_default.is) c.counts_in-counts.ensures c.fill_pools.ensures
+    read-good _ (parts s.args.mins.now s.args.maxs.now s.args.optional.now s.args.levels.now s.args.preferences.now s.args.rows.now) c.pools_full.ensures (c.if-not-pools_full.false) c.judge_file-judged.ensures (ap checked_tells c.in_default.is) c.counts_in-counts.ensures c.fill_pools.ensures

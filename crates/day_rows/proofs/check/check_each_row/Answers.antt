@@ -10,11 +10,11 @@ loop-i-init c =
 
 pub returns-then-not-row_keeps : goal.returns-then-not-row_keeps
 returns-then-not-row_keeps c =
-    stops_at _ _ _ _ c.loop-i-test.true c.loop-i.invariant.1 (sym c.row_keeps.ensures ∙ c.if-not-row_keeps.true-raw)
+    stops_at _ _ _ _ c.loop-i-test.true c.loop-i.invariant.1 (sym c.row_keeps.ensures ∙ c.if-not-row_keeps.true)
 
 pub loop-i-preserved : goal.loop-i-preserved
 loop-i-preserved c =
-    (search rules, from_next _ _ _ _ c.loop-i-test.true c.loop-i.invariant.1 (sym c.row_keeps.ensures ∙ c.if-not-row_keeps.false-raw))
+    (search rules, from_next _ _ _ _ c.loop-i-test.true c.loop-i.invariant.1 (sym c.row_keeps.ensures ∙ c.if-not-row_keeps.false))
 
 pub returns : goal.returns
 returns c =

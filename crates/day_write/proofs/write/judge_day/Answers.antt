@@ -5,20 +5,20 @@ use Rattle.day_write.proofs.write.judge_day.Goals as goal
 
 pub returns-then-not-in_range : goal.returns-then-not-in_range
 returns-then-not-in_range c =
-    day-count _ _ c.in_range.ensures (c.if-not-in_range.true-raw)
+    day-count _ _ c.in_range.ensures (c.if-not-in_range.true)
 
 pub lengths_keep-requires : goal.lengths_keep-requires
 lengths_keep-requires c =
-    sym c.in_range.ensures ∙ c.if-not-in_range.false-raw
+    sym c.in_range.ensures ∙ c.if-not-in_range.false
 
 pub returns-then-not-lengths_keep : goal.returns-then-not-lengths_keep
 returns-then-not-lengths_keep c =
-    day-lengths _ _ c.in_range.ensures (c.if-not-in_range.false-raw) c.lengths_keep.ensures (c.if-not-lengths_keep.true-raw)
+    day-lengths _ _ c.in_range.ensures (c.if-not-in_range.false) c.lengths_keep.ensures (c.if-not-lengths_keep.true)
 
 pub returns-then-room-ne-LONGEST_FILE : goal.returns-then-room-ne-LONGEST_FILE
 returns-then-room-ne-LONGEST_FILE c =
-    day-room _ _ c.in_range.ensures (c.if-not-in_range.false-raw) c.lengths_keep.ensures (c.if-not-lengths_keep.false-raw) c.if-room-ne-LONGEST_FILE.true
+    day-room _ _ c.in_range.ensures (c.if-not-in_range.false) c.lengths_keep.ensures (c.if-not-lengths_keep.false) c.if-room-ne-LONGEST_FILE.true
 
 pub returns : goal.returns
 returns c =
-    day-lists _ _ c.in_range.ensures (c.if-not-in_range.false-raw) c.lengths_keep.ensures (c.if-not-lengths_keep.false-raw) c.if-room-ne-LONGEST_FILE.false (c.judge_lists.ensures _ _)
+    day-lists _ _ c.in_range.ensures (c.if-not-in_range.false) c.lengths_keep.ensures (c.if-not-lengths_keep.false) c.if-room-ne-LONGEST_FILE.false (c.judge_lists.ensures _ _)

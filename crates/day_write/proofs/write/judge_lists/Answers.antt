@@ -6,20 +6,20 @@ use Rattle.day_write.proofs.write.judge_lists.Goals as goal
 
 pub returns-then-not-levels_rise : goal.returns-then-not-levels_rise
 returns-then-not-levels_rise c =
-    λ mins maxs. lists-levels _ c.levels_rise.ensures (c.if-not-levels_rise.true-raw)
+    λ mins maxs. lists-levels _ c.levels_rise.ensures (c.if-not-levels_rise.true)
 
 pub returns-then-not-preferences_keep : goal.returns-then-not-preferences_keep
 returns-then-not-preferences_keep c =
-    λ mins maxs. lists_preference _ c.levels_rise.ensures (c.if-not-levels_rise.false-raw) (last-level _ _ c.last_level.ensures c.preferences_keep.ensures) (c.if-not-preferences_keep.true-raw)
+    λ mins maxs. lists_preference _ c.levels_rise.ensures (c.if-not-levels_rise.false) (last-level _ _ c.last_level.ensures c.preferences_keep.ensures) (c.if-not-preferences_keep.true)
 
 pub returns-in-Refused : goal.returns-in-Refused
 returns-in-Refused c =
-    λ mins maxs. lists-rows _ c.levels_rise.ensures (c.if-not-levels_rise.false-raw) (last-level _ _ c.last_level.ensures c.preferences_keep.ensures) (c.if-not-preferences_keep.false-raw) (rows-judged _ c.for_rows.ensures c.check_each_row-judged.ensures) (ap checked_tells c.in-Refused.is)
+    λ mins maxs. lists-rows _ c.levels_rise.ensures (c.if-not-levels_rise.false) (last-level _ _ c.last_level.ensures c.preferences_keep.ensures) (c.if-not-preferences_keep.false) (rows-judged _ c.for_rows.ensures c.check_each_row-judged.ensures) (ap checked_tells c.in-Refused.is)
 
 pub returns-then-not-flags_fit : goal.returns-then-not-flags_fit
 returns-then-not-flags_fit c =
-    λ mins maxs. lists-optional _ c.levels_rise.ensures (c.if-not-levels_rise.false-raw) (last-level _ _ c.last_level.ensures c.preferences_keep.ensures) (c.if-not-preferences_keep.false-raw) (rows-judged _ c.for_rows.ensures c.check_each_row-judged.ensures) (ap checked_tells c.in_default.is) c.flags_fit.ensures (c.if-not-flags_fit.true-raw)
+    λ mins maxs. lists-optional _ c.levels_rise.ensures (c.if-not-levels_rise.false) (last-level _ _ c.last_level.ensures c.preferences_keep.ensures) (c.if-not-preferences_keep.false) (rows-judged _ c.for_rows.ensures c.check_each_row-judged.ensures) (ap checked_tells c.in_default.is) c.flags_fit.ensures (c.if-not-flags_fit.true)
 
 pub returns : goal.returns
 returns c =
-    λ mins maxs. lists-good _ c.levels_rise.ensures (c.if-not-levels_rise.false-raw) (last-level _ _ c.last_level.ensures c.preferences_keep.ensures) (c.if-not-preferences_keep.false-raw) (rows-judged _ c.for_rows.ensures c.check_each_row-judged.ensures) (ap checked_tells c.in_default.is) c.flags_fit.ensures (c.if-not-flags_fit.false-raw)
+    λ mins maxs. lists-good _ c.levels_rise.ensures (c.if-not-levels_rise.false) (last-level _ _ c.last_level.ensures c.preferences_keep.ensures) (c.if-not-preferences_keep.false) (rows-judged _ c.for_rows.ensures c.check_each_row-judged.ensures) (ap checked_tells c.in_default.is) c.flags_fit.ensures (c.if-not-flags_fit.false)

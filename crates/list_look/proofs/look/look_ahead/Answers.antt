@@ -6,8 +6,8 @@ use Rattle.list_look.proofs.look.look_ahead.Goals as goal
 
 pub returns-then-not-all_alive : goal.returns-then-not-all_alive
 returns-then-not-all_alive c =
-    (looked_dead _ _ _ _ _ _ _ _ c.counts_of-counts.ensures c.with_decided-seen.ensures c.weigh.ensures c.all_alive.ensures (c.if-not-all_alive.true-raw) c.no_places.ensures, refl)
+    (looked_dead _ _ _ _ _ _ _ _ c.counts_of-counts.ensures c.with_decided-seen.ensures c.weigh.ensures c.all_alive.ensures (c.if-not-all_alive.true) c.no_places.ensures, refl)
 
 pub returns : goal.returns
 returns c =
-    (looked-by _ _ _ _ _ _ _ _ c.counts_of-counts.ensures c.with_decided-seen.ensures c.weigh.ensures c.all_alive.ensures (c.if-not-all_alive.false-raw) c.narrow_by_slots.ensures c.narrow_by_rows.ensures c.alive_or.ensures, refl)
+    (looked-by _ _ _ _ _ _ _ _ c.counts_of-counts.ensures c.with_decided-seen.ensures c.weigh.ensures c.all_alive.ensures (c.if-not-all_alive.false) c.narrow_by_slots.ensures c.narrow_by_rows.ensures c.alive_or.ensures, refl)

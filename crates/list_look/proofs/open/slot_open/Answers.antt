@@ -8,8 +8,8 @@ returns-then-choosers-slot_max c =
 
 pub returns-then-not-slot_fits : goal.returns-then-not-slot_fits
 returns-then-not-slot_fits c =
-    open_full _ _ _ _ _ _ _ _ _ _ _ c.slot_fits.ensures (c.if-not-slot_fits.true-raw)
+    open_full _ _ _ _ _ _ _ _ _ _ _ c.slot_fits.ensures (c.if-not-slot_fits.true)
 
 pub returns : goal.returns
 returns c =
-    open_fitting _ _ _ _ _ _ _ _ _ _ _ c.slot_fits.ensures (c.if-not-slot_fits.false-raw) c.leaves_enough.ensures
+    open_fitting _ _ _ _ _ _ _ _ _ _ _ c.slot_fits.ensures (c.if-not-slot_fits.false) c.leaves_enough.ensures

@@ -6,20 +6,20 @@ use Rattle.list_nodes.proofs.judge.judge.Goals as goal
 
 pub returns-then-not-counts_in_range : goal.returns-then-not-counts_in_range
 returns-then-not-counts_in_range c =
-    judge_count _ _ _ (sym c.counts_in_range.ensures ∙ c.if-not-counts_in_range.true-raw)
+    judge_count _ _ _ (sym c.counts_in_range.ensures ∙ c.if-not-counts_in_range.true)
 
 pub returns-then-not-lengths_fit : goal.returns-then-not-lengths_fit
 returns-then-not-lengths_fit c =
-    judge_length _ _ _ (sym c.counts_in_range.ensures ∙ c.if-not-counts_in_range.false-raw) (sym c.lengths_fit.ensures ∙ c.if-not-lengths_fit.true-raw)
+    judge_length _ _ _ (sym c.counts_in_range.ensures ∙ c.if-not-counts_in_range.false) (sym c.lengths_fit.ensures ∙ c.if-not-lengths_fit.true)
 
 pub returns-in-Refused : goal.returns-in-Refused
 returns-in-Refused c =
-    judge_row _ _ _ (sym c.counts_in_range.ensures ∙ c.if-not-counts_in_range.false-raw) (sym c.lengths_fit.ensures ∙ c.if-not-lengths_fit.false-raw) (told-by c.check_each_row-checked.ensures c.in-Refused.is)
+    judge_row _ _ _ (sym c.counts_in_range.ensures ∙ c.if-not-counts_in_range.false) (sym c.lengths_fit.ensures ∙ c.if-not-lengths_fit.false) (told-by c.check_each_row-checked.ensures c.in-Refused.is)
 
 pub returns-then-not-flags_fit : goal.returns-then-not-flags_fit
 returns-then-not-flags_fit c =
-    judge_flag _ _ _ (sym c.counts_in_range.ensures ∙ c.if-not-counts_in_range.false-raw) (sym c.lengths_fit.ensures ∙ c.if-not-lengths_fit.false-raw) (told-by c.check_each_row-checked.ensures c.in_default.is) (sym c.flags_fit.ensures ∙ c.if-not-flags_fit.true-raw)
+    judge_flag _ _ _ (sym c.counts_in_range.ensures ∙ c.if-not-counts_in_range.false) (sym c.lengths_fit.ensures ∙ c.if-not-lengths_fit.false) (told-by c.check_each_row-checked.ensures c.in_default.is) (sym c.flags_fit.ensures ∙ c.if-not-flags_fit.true)
 
 pub returns : goal.returns
 returns c =
-    judge_good _ _ _ (sym c.counts_in_range.ensures ∙ c.if-not-counts_in_range.false-raw) (sym c.lengths_fit.ensures ∙ c.if-not-lengths_fit.false-raw) (told-by c.check_each_row-checked.ensures c.in_default.is) (sym c.flags_fit.ensures ∙ c.if-not-flags_fit.false-raw)
+    judge_good _ _ _ (sym c.counts_in_range.ensures ∙ c.if-not-counts_in_range.false) (sym c.lengths_fit.ensures ∙ c.if-not-lengths_fit.false) (told-by c.check_each_row-checked.ensures c.in_default.is) (sym c.flags_fit.ensures ∙ c.if-not-flags_fit.false)

@@ -96,7 +96,7 @@ count_choice-requires-2 t c =
 pub returns-then-not-count_choice : goal.returns-then-not-count_choice
 returns-then-not-count_choice t c =
     let s = c in
-    counted-ends _ _ _ _ _ _ _ _ s.requires.1 c.if-slot-slots.false c.wide_word.ensures.0 c.if-choosers-after.false c.count_choice-2.ensures (c.if-not-count_choice.true-raw)
+    counted-ends _ _ _ _ _ _ _ _ s.requires.1 c.if-slot-slots.false c.wide_word.ensures.0 c.if-choosers-after.false c.count_choice-2.ensures (c.if-not-count_choice.true)
 
 pub bounds-slot_min-slot-3 : goal.bounds-slot_min-slot-3
 bounds-slot_min-slot-3 t c =
@@ -109,13 +109,13 @@ count_place-requires-2 t c =
     let s = c in
     let w = s.requires.0 in
     let h = lt_of_le-ne s.requires.1 c.if-slot-slots.false in
-    let b = sums-back {sums = s.args.slot_min.now} s.args.slot (get_or s.args.slot_min.now s.args.slot 0 + c.wide_word.result) (c.count_choice-2.ensures.kept (c.if-not-count_choice.false-raw)) in
+    let b = sums-back {sums = s.args.slot_min.now} s.args.slot (get_or s.args.slot_min.now s.args.slot 0 + c.wide_word.result) (c.count_choice-2.ensures.kept (c.if-not-count_choice.false)) in
     (omega (arith, s.decreases, h), (rw b w, omega (arith, h)))
 
 pub returns : goal.returns
 returns t c =
     let s = c in
-    counted-slot _ _ _ _ _ _ _ _ s.requires.1 c.if-slot-slots.false c.wide_word.ensures.0 c.if-choosers-after.false c.count_choice-2.ensures (c.if-not-count_choice.false-raw) c.count_place-2.ensures
+    counted-slot _ _ _ _ _ _ _ _ s.requires.1 c.if-slot-slots.false c.wide_word.ensures.0 c.if-choosers-after.false c.count_choice-2.ensures (c.if-not-count_choice.false) c.count_place-2.ensures
 
 -- UNMATCHED bounds-1-if2
 -- bounds-1-if2 t c =

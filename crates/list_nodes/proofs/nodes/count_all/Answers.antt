@@ -7,8 +7,8 @@ count_choice-requires c = count_walks _ c.requires c.figures-slot_min.ensures
 
 pub returns-then-not-count_choice : goal.returns-then-not-count_choice
 returns-then-not-count_choice c =
-    counted-over _ c.requires c.figures-slot_min.ensures c.count_choice.ensures (c.if-not-count_choice.true-raw)
+    counted-over _ c.requires c.figures-slot_min.ensures c.count_choice.ensures (c.if-not-count_choice.true)
 
 pub returns : goal.returns
 returns c =
-    counted-within _ c.requires c.figures-slot_min.ensures c.count_choice.ensures (c.if-not-count_choice.false-raw) c.less_u64.ensures
+    counted-within _ c.requires c.figures-slot_min.ensures c.count_choice.ensures (c.if-not-count_choice.false) c.less_u64.ensures

@@ -5,13 +5,13 @@ use Rattle.list_rule_tables.proofs.SettledLaws.{changed_free, changed_past, chan
 use Rattle.list_rule_counts.proofs.counts.count_one.Goals as goal
 
 pub returns-then-not-is_settled : goal.returns-then-not-is_settled
-returns-then-not-is_settled c = changed_free _ _ _ _ _ c.is_settled.ensures (c.if-not-is_settled.true-raw)
+returns-then-not-is_settled c = changed_free _ _ _ _ _ c.is_settled.ensures (c.if-not-is_settled.true)
 
 pub returns-then-slots-slot : goal.returns-then-slots-slot
-returns-then-slots-slot c = changed_past _ _ _ _ _ c.is_settled.ensures _ (c.if-not-is_settled.false-raw) c.lowest_place-slot.ensures c.if-slots-slot.true
+returns-then-slots-slot c = changed_past _ _ _ _ _ c.is_settled.ensures _ (c.if-not-is_settled.false) c.lowest_place-slot.ensures c.if-slots-slot.true
 
 pub overflow_add-settled : goal.overflow_add-settled
 overflow_add-settled c = omega (arith, c.requires.1 _ c.if-slots-slot.false)
 
 pub returns : goal.returns
-returns c = changed_in _ _ _ _ _ c.is_settled.ensures _ (c.if-not-is_settled.false-raw) c.lowest_place-slot.ensures _ c.if-slots-slot.false refl
+returns c = changed_in _ _ _ _ _ c.is_settled.ensures _ (c.if-not-is_settled.false) c.lowest_place-slot.ensures _ c.if-slots-slot.false refl

@@ -5,12 +5,12 @@ use Rattle.list_rule_counts.proofs.rooms.left_with.Goals as goal
 
 pub returns-then-not-free : goal.returns-then-not-free
 returns-then-not-free c =
-    left-settled (entry_at _) _ _ _ _ _ _ _ (c.if-not-free.true-raw)
+    left-settled (entry_at _) _ _ _ _ _ _ _ (c.if-not-free.true)
 
 pub returns-then-not-is_full : goal.returns-then-not-is_full
 returns-then-not-is_full c =
-    left-room (entry_at _) _ _ _ _ _ _ _ _ _ _ _ (c.if-not-free.false-raw) c.wide_word.ensures.0 c.less.ensures c.least_at-others.ensures.0 c.is_full.ensures (c.if-not-is_full.true-raw)
+    left-room (entry_at _) _ _ _ _ _ _ _ _ _ _ _ (c.if-not-free.false) c.wide_word.ensures.0 c.less.ensures c.least_at-others.ensures.0 c.is_full.ensures (c.if-not-is_full.true)
 
 pub returns : goal.returns
 returns c =
-    left-full (entry_at _) _ _ _ _ _ _ _ _ _ _ _ (c.if-not-free.false-raw) c.wide_word.ensures.0 c.less.ensures c.least_at-others.ensures.0 c.is_full.ensures _ (c.if-not-is_full.false-raw) c.kept.ensures
+    left-full (entry_at _) _ _ _ _ _ _ _ _ _ _ _ (c.if-not-free.false) c.wide_word.ensures.0 c.less.ensures c.least_at-others.ensures.0 c.is_full.ensures _ (c.if-not-is_full.false) c.kept.ensures

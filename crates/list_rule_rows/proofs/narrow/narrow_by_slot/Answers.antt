@@ -4,13 +4,13 @@ use Rattle.list_rule_rows.proofs.SideLaws.{domain_below, slot-none, slot-by}
 use Rattle.list_rule_rows.proofs.narrow.narrow_by_slot.Goals as goal
 
 pub returns-then-not-has_domain : goal.returns-then-not-has_domain
-returns-then-not-has_domain c = slot-none _ _ _ _ _ _ c.left_of-left.ensures (sym c.has_domain.ensures ∙ c.if-not-has_domain.true-raw)
+returns-then-not-has_domain c = slot-none _ _ _ _ _ _ c.left_of-left.ensures (sym c.has_domain.ensures ∙ c.if-not-has_domain.true)
 
 pub bounds-domains-left : goal.bounds-domains-left
-bounds-domains-left c = domain_below _ _ (sym c.has_domain.ensures ∙ c.if-not-has_domain.false-raw)
+bounds-domains-left c = domain_below _ _ (sym c.has_domain.ensures ∙ c.if-not-has_domain.false)
 
 pub bounds-domains-left-2 : goal.bounds-domains-left-2
-bounds-domains-left-2 c = domain_below _ _ (sym c.has_domain.ensures ∙ c.if-not-has_domain.false-raw)
+bounds-domains-left-2 c = domain_below _ _ (sym c.has_domain.ensures ∙ c.if-not-has_domain.false)
 
 pub returns : goal.returns
-returns c = slot-by _ _ _ _ _ _ _ _ c.left_of-left.ensures c.right_of-slot.ensures (sym c.has_domain.ensures ∙ c.if-not-has_domain.false-raw) c.slot_leaves.ensures
+returns c = slot-by _ _ _ _ _ _ _ _ c.left_of-left.ensures c.right_of-slot.ensures (sym c.has_domain.ensures ∙ c.if-not-has_domain.false) c.slot_leaves.ensures

@@ -4,8 +4,8 @@ use Rattle.list_rule_slots.proofs.limits.without.Goals as goal
 
 pub returns-then-not-test : goal.returns-then-not-test
 returns-then-not-test c =
-    less_none _ _ (c.if-not-test.true-raw)
+    less_none _ _ (c.if-not-test.true)
 
 pub returns : goal.returns
 returns c =
-    less_one _ _ (c.if-not-test.false-raw)
+    less_one _ _ (c.if-not-test.false)

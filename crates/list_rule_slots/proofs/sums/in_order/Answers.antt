@@ -12,11 +12,11 @@ loop-slot-init c =
 
 pub returns-then-not-between : goal.returns-then-not-between
 returns-then-not-between c =
-    order-fails _ _ _ _ _ c.loop-slot-test.true c.between.ensures (c.if-not-between.true-raw)
+    order-fails _ _ _ _ _ c.loop-slot-test.true c.between.ensures (c.if-not-between.true)
 
 pub loop-slot-preserved : goal.loop-slot-preserved
 loop-slot-preserved c =
-    (search rules, all_more _ _ c.loop-slot.invariant.1 (sym c.between.ensures ∙ c.if-not-between.false-raw))
+    (search rules, all_more _ _ c.loop-slot.invariant.1 (sym c.between.ensures ∙ c.if-not-between.false))
 
 pub returns : goal.returns
 returns c =

@@ -3,10 +3,10 @@ use Rattle.list_rule_tables.proofs.SettledLaws.{changed_free, changed_past, chan
 use Rattle.list_rule_tables.proofs.figures.bring.Goals as goal
 
 pub returns-then-not-is_settled : goal.returns-then-not-is_settled
-returns-then-not-is_settled c = changed_free _ _ _ _ _ c.is_settled.ensures (c.if-not-is_settled.true-raw)
+returns-then-not-is_settled c = changed_free _ _ _ _ _ c.is_settled.ensures (c.if-not-is_settled.true)
 
 pub returns-then-slots-slot : goal.returns-then-slots-slot
-returns-then-slots-slot c = changed_past _ _ _ _ _ c.is_settled.ensures _ (c.if-not-is_settled.false-raw) c.lowest_place-slot.ensures c.if-slots-slot.true
+returns-then-slots-slot c = changed_past _ _ _ _ _ c.is_settled.ensures _ (c.if-not-is_settled.false) c.lowest_place-slot.ensures c.if-slots-slot.true
 
 pub returns : goal.returns
-returns c = changed_in _ _ _ _ _ c.is_settled.ensures _ (c.if-not-is_settled.false-raw) c.lowest_place-slot.ensures _ c.if-slots-slot.false (lack-left _ _ _ _ c.less.ensures c.wide_word.ensures.0)
+returns c = changed_in _ _ _ _ _ c.is_settled.ensures _ (c.if-not-is_settled.false) c.lowest_place-slot.ensures _ c.if-slots-slot.false (lack-left _ _ _ _ c.less.ensures c.wide_word.ensures.0)

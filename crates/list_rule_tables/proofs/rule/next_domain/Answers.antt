@@ -7,7 +7,7 @@ use Rattle.list_rule_tables.proofs.rule.next_domain.Goals as goal
 
 pub returns-then-not-free : goal.returns-then-not-free
 returns-then-not-free c =
-    let a = c.args in next-same a.free (weighed_places (entry_at a.tables.now) (lightest_at a.tables.now) a.slots a.table a.from a.lacks.now a.wants.now (weight_at a.tables.now a.table a.choice) a.most a.need a.spare a.domain) a.domain (c.if-not-free.true-raw)
+    let a = c.args in next-same a.free (weighed_places (entry_at a.tables.now) (lightest_at a.tables.now) a.slots a.table a.from a.lacks.now a.wants.now (weight_at a.tables.now a.table a.choice) a.most a.need a.spare a.domain) a.domain (c.if-not-free.true)
 
 pub left_of-requires : goal.left_of-requires
 left_of-requires c =
@@ -15,4 +15,4 @@ left_of-requires c =
 
 pub returns : goal.returns
 returns c =
-    next-left _ _ c.args.free _ _ _ _ _ _ _ _ _ _ _ _ _ (c.if-not-free.false-raw) c.weight_at-weight.ensures.0 c.wide_word.ensures.0 c.left_of.ensures
+    next-left _ _ c.args.free _ _ _ _ _ _ _ _ _ _ _ _ _ (c.if-not-free.false) c.weight_at-weight.ensures.0 c.wide_word.ensures.0 c.left_of.ensures

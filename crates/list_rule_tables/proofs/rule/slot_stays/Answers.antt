@@ -5,8 +5,8 @@ use Rattle.list_rule_tables.proofs.rule.slot_stays.Goals as goal
 
 pub returns-then-not-member : goal.returns-then-not-member
 returns-then-not-member c =
-    slot-lost _ _ _ _ _ _ _ _ _ _ _ _ (sym c.member.ensures ∙ c.if-not-member.true-raw)
+    slot-lost _ _ _ _ _ _ _ _ _ _ _ _ (sym c.member.ensures ∙ c.if-not-member.true)
 
 pub returns : goal.returns
 returns c =
-    slot-asked _ _ _ _ _ _ _ _ _ _ _ _ _ _ _ _ (sym c.member.ensures ∙ c.if-not-member.false-raw) c.less.ensures c.less-2.ensures c.slot_needs-rest.ensures.0 c.slot_needs-whole.ensures.0
+    slot-asked _ _ _ _ _ _ _ _ _ _ _ _ _ _ _ _ (sym c.member.ensures ∙ c.if-not-member.false) c.less.ensures c.less-2.ensures c.slot_needs-rest.ensures.0 c.slot_needs-whole.ensures.0

@@ -100,7 +100,7 @@ returns-then-not-going t c =
     let t₁ = c.take_place-stood.ensures in
     let g = stood_as t₁ (take-allowed _ _ _ [] [] l o) in
     let v = left_as t₁ c.leave_place.ensures (leave_allowed _ _ _ [] [] l o) in
-    walked-stopped _ _ _ _ _ l o g.0 g.1 g.2 g.3 c.walk_choice-going.ensures refl v.0 v.1 (c.if-not-going.true-raw)
+    walked-stopped _ _ _ _ _ l o g.0 g.1 g.2 g.3 c.walk_choice-going.ensures refl v.0 v.1 (c.if-not-going.true)
 
 pub shape_of-buffer-then-next-eq0 : goal.shape_of-buffer-then-next-eq0
 shape_of-buffer-then-next-eq0 t c =
@@ -117,7 +117,7 @@ returns-then-next-eq0 t c =
     let q = c.pass_over-still.ensures in
     let w = passed_as _ _ _ _ _ _ t₁ (leave_allowed _ _ _ [] [] l o) c.none_met-unmet.ensures q.0 in
     let h = c.next_after-next.ensures in
-    let i = c.if-not-going.false-raw in
+    let i = c.if-not-going.false in
     walked-last _ _ _ _ _ l o g.0 g.1 g.2 g.3 c.walk_choice-going.ensures q.1 v.0 v.1 i w h c.if-next-eq0.true
 
 pub walk_place-requires : goal.walk_place-requires
@@ -131,7 +131,7 @@ walk_place-requires t c =
     let q = c.pass_over-still.ensures in
     let w = passed_as _ _ _ _ _ _ t₁ (leave_allowed _ _ _ [] [] l o) c.none_met-unmet.ensures q.0 in
     let h = c.next_after-next.ensures in
-    let i = c.if-not-going.false-raw in
+    let i = c.if-not-going.false in
     (to_next t (length s.args.mins.now.now) s.args.choice s.args.left _ s.decreases (fewer _ _ _ _ _ l o g.0 g.1 g.2 g.3 c.walk_choice-going.ensures q.1 v.0 v.1 i w h), rest_requires _ _ _ _ _ l o g.0 g.1 g.2 g.3 c.walk_choice-going.ensures q.1 v.0 v.1 i w h c.walk_choice-going.auto.buffer c.if-next-eq0.false)
 
 pub shape_of-buffer : goal.shape_of-buffer
@@ -149,5 +149,5 @@ returns t c =
     let q = c.pass_over-still.ensures in
     let w = passed_as _ _ _ _ _ _ t₁ (leave_allowed _ _ _ [] [] l o) c.none_met-unmet.ensures q.0 in
     let h = c.next_after-next.ensures in
-    let i = c.if-not-going.false-raw in
+    let i = c.if-not-going.false in
     walked-rest _ _ _ _ _ l o g.0 g.1 g.2 g.3 c.walk_choice-going.ensures q.1 v.0 v.1 i w h c.walk_place.ensures

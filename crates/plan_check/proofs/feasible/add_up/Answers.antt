@@ -11,11 +11,11 @@ loop-choice-init c =
 
 pub returns-then-not-omission_allowed : goal.returns-then-not-omission_allowed
 returns-then-not-omission_allowed c =
-    adding_refused _ _ _ _ _ _ _ _ _ c.loop-choice.invariant c.loop-choice-test.true (omega (arith, c.wide-slot.ensures.0, c.if-slots-slot.true)) (sym c.omission_allowed.ensures ∙ c.if-not-omission_allowed.true-raw)
+    adding_refused _ _ _ _ _ _ _ _ _ c.loop-choice.invariant c.loop-choice-test.true (omega (arith, c.wide-slot.ensures.0, c.if-slots-slot.true)) (sym c.omission_allowed.ensures ∙ c.if-not-omission_allowed.true)
 
 pub loop-choice-preserved-then-slots-slot : goal.loop-choice-preserved-then-slots-slot
 loop-choice-preserved-then-slots-slot c =
-    let t = sym c.omission_allowed.ensures ∙ c.if-not-omission_allowed.false-raw in
+    let t = sym c.omission_allowed.ensures ∙ c.if-not-omission_allowed.false in
     adding_skip _ _ _ _ _ _ _ _ _ c.loop-choice.invariant c.loop-choice-test.true (omega (arith, c.wide-slot.ensures.0, c.if-slots-slot.true)) t (omission_is _ _ t)
 
 pub add_at-requires : goal.add_at-requires

@@ -14,12 +14,12 @@ returns-then-counts-gt24 c =
 
 pub returns-then-not-lengths_fit : goal.returns-then-not-lengths_fit
 returns-then-not-lengths_fit c =
-    bad_lengths _ _ c.if-counts-gt64.false c.if-counts-gt24.false (sym c.lengths_fit.ensures ∙ c.if-not-lengths_fit.true-raw)
+    bad_lengths _ _ c.if-counts-gt64.false c.if-counts-gt24.false (sym c.lengths_fit.ensures ∙ c.if-not-lengths_fit.true)
 
 pub passes-requires : goal.passes-requires
 passes-requires c =
-    shapes (day_of c.args.counts c.args.mins.now c.args.maxs.now c.args.optional.now c.args.rows.now) _ c.if-counts-gt64.false c.if-counts-gt24.false (sym c.lengths_fit.ensures ∙ c.if-not-lengths_fit.false-raw)
+    shapes (day_of c.args.counts c.args.mins.now c.args.maxs.now c.args.optional.now c.args.rows.now) _ c.if-counts-gt64.false c.if-counts-gt24.false (sym c.lengths_fit.ensures ∙ c.if-not-lengths_fit.false)
 
 pub returns : goal.returns
 returns c =
-    c.passes.ensures ∙ worker_agrees _ _ c.if-counts-gt64.false c.if-counts-gt24.false (sym c.lengths_fit.ensures ∙ c.if-not-lengths_fit.false-raw)
+    c.passes.ensures ∙ worker_agrees _ _ c.if-counts-gt64.false c.if-counts-gt24.false (sym c.lengths_fit.ensures ∙ c.if-not-lengths_fit.false)

@@ -8,12 +8,12 @@ returns-then-plan-gt64 c = every-long _ _ c.if-plan-gt64.true
 
 pub returns-then-not-count_sizes : goal.returns-then-not-count_sizes
 returns-then-not-count_sizes c =
-    every_bad _ _ c.if-plan-gt64.false (sym c.count_sizes.ensures.answer ∙ c.if-not-count_sizes.true-raw)
+    every_bad _ _ c.if-plan-gt64.false (sym c.count_sizes.ensures.answer ∙ c.if-not-count_sizes.true)
 
 pub keeps_rows-requires : goal.keeps_rows-requires
 keeps_rows-requires c =
-    c.count_sizes.ensures.counted (c.if-not-count_sizes.false-raw)
+    c.count_sizes.ensures.counted (c.if-not-count_sizes.false)
 
 pub returns : goal.returns
 returns c =
-    c.keeps_rows.ensures ∙ every-rows _ _ c.if-plan-gt64.false (sym c.count_sizes.ensures.answer ∙ c.if-not-count_sizes.false-raw)
+    c.keeps_rows.ensures ∙ every-rows _ _ c.if-plan-gt64.false (sym c.count_sizes.ensures.answer ∙ c.if-not-count_sizes.false)

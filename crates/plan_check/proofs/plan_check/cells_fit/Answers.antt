@@ -11,11 +11,11 @@ loop-i-init c =
 
 pub returns-then-not-cell_fits : goal.returns-then-not-cell_fits
 returns-then-not-cell_fits c =
-    sym (rest-fails _ _ _ c.loop-i-test.true c.loop-i.invariant.1 (sym c.cell_fits.ensures ∙ c.if-not-cell_fits.true-raw))
+    sym (rest-fails _ _ _ c.loop-i-test.true c.loop-i.invariant.1 (sym c.cell_fits.ensures ∙ c.if-not-cell_fits.true))
 
 pub loop-i-preserved : goal.loop-i-preserved
 loop-i-preserved c =
-    (search rules, rest-next _ _ _ c.loop-i-test.true c.loop-i.invariant.1 (sym c.cell_fits.ensures ∙ c.if-not-cell_fits.false-raw))
+    (search rules, rest-next _ _ _ c.loop-i-test.true c.loop-i.invariant.1 (sym c.cell_fits.ensures ∙ c.if-not-cell_fits.false))
 
 pub returns : goal.returns
 returns c =

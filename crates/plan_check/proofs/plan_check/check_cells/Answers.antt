@@ -5,12 +5,12 @@ use Rattle.plan_check.proofs.plan_check.check_cells.Goals as goal
 
 pub returns-then-not-cells : goal.returns-then-not-cells
 returns-then-not-cells c =
-    bad_cell _ _ _ (sym c.cells_known-cells.ensures ∙ c.if-not-cells.true-raw)
+    bad_cell _ _ _ (sym c.cells_known-cells.ensures ∙ c.if-not-cells.true)
 
 pub returns-then-not-flags : goal.returns-then-not-flags
 returns-then-not-flags c =
-    bad_flag _ _ _ (sym c.cells_known-cells.ensures ∙ c.if-not-cells.false-raw) (sym c.flags_fit-flags.ensures ∙ c.if-not-flags.true-raw)
+    bad_flag _ _ _ (sym c.cells_known-cells.ensures ∙ c.if-not-cells.false) (sym c.flags_fit-flags.ensures ∙ c.if-not-flags.true)
 
 pub returns : goal.returns
 returns c =
-    good-cells _ _ _ (sym c.cells_known-cells.ensures ∙ c.if-not-cells.false-raw) (sym c.flags_fit-flags.ensures ∙ c.if-not-flags.false-raw)
+    good-cells _ _ _ (sym c.cells_known-cells.ensures ∙ c.if-not-cells.false) (sym c.flags_fit-flags.ensures ∙ c.if-not-flags.false)

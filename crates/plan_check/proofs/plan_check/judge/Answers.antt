@@ -5,16 +5,16 @@ use Rattle.plan_check.proofs.plan_check.judge.Goals as goal
 
 pub returns-then-not-counts_in_range : goal.returns-then-not-counts_in_range
 returns-then-not-counts_in_range c =
-    before-count _ _ (sym c.counts_in_range.ensures ∙ c.if-not-counts_in_range.true-raw)
+    before-count _ _ (sym c.counts_in_range.ensures ∙ c.if-not-counts_in_range.true)
 
 pub returns-then-not-lengths_fit : goal.returns-then-not-lengths_fit
 returns-then-not-lengths_fit c =
-    before-length _ _ (sym c.counts_in_range.ensures ∙ c.if-not-counts_in_range.false-raw) (sym c.lengths_fit.ensures ∙ c.if-not-lengths_fit.true-raw)
+    before-length _ _ (sym c.counts_in_range.ensures ∙ c.if-not-counts_in_range.false) (sym c.lengths_fit.ensures ∙ c.if-not-lengths_fit.true)
 
 pub returns-then-rows-counts : goal.returns-then-rows-counts
 returns-then-rows-counts c =
-    before-rows-length _ _ (sym c.counts_in_range.ensures ∙ c.if-not-counts_in_range.false-raw) (sym c.lengths_fit.ensures ∙ c.if-not-lengths_fit.false-raw) c.if-rows-counts.true
+    before-rows-length _ _ (sym c.counts_in_range.ensures ∙ c.if-not-counts_in_range.false) (sym c.lengths_fit.ensures ∙ c.if-not-lengths_fit.false) c.if-rows-counts.true
 
 pub returns : goal.returns
 returns c =
-    c.check_each_row.ensures ∙ before-rows _ _ (sym c.counts_in_range.ensures ∙ c.if-not-counts_in_range.false-raw) (sym c.lengths_fit.ensures ∙ c.if-not-lengths_fit.false-raw) c.if-rows-counts.false
+    c.check_each_row.ensures ∙ before-rows _ _ (sym c.counts_in_range.ensures ∙ c.if-not-counts_in_range.false) (sym c.lengths_fit.ensures ∙ c.if-not-lengths_fit.false) c.if-rows-counts.false

@@ -10,12 +10,12 @@ loop-left-init c =
 pub returns-then-not-keeps_row : goal.returns-then-not-keeps_row
 returns-then-not-keeps_row c =
     let l = c.loop-left in
-    sym (rows-broken _ _ _ c.loop-left-test.true l.invariant.0 l.invariant.1 (sym c.keeps_row.ensures ∙ c.if-not-keeps_row.true-raw))
+    sym (rows-broken _ _ _ c.loop-left-test.true l.invariant.0 l.invariant.1 (sym c.keeps_row.ensures ∙ c.if-not-keeps_row.true))
 
 pub loop-left-preserved : goal.loop-left-preserved
 loop-left-preserved c =
     let l = c.loop-left in
-    (search rules, rows_next _ _ _ c.loop-left-test.true l.invariant.0 l.invariant.1 (sym c.keeps_row.ensures ∙ c.if-not-keeps_row.false-raw))
+    (search rules, rows_next _ _ _ c.loop-left-test.true l.invariant.0 l.invariant.1 (sym c.keeps_row.ensures ∙ c.if-not-keeps_row.false))
 
 pub returns : goal.returns
 returns c =

@@ -8,12 +8,12 @@ returns-then-rows-gt128 c = many-rows _ _ _ _ c.if-rows-gt128.true
 
 pub returns-then-not-groups_fit : goal.returns-then-not-groups_fit
 returns-then-not-groups_fit c =
-    not-fitting _ _ _ c.if-rows-gt128.false _ (sym c.groups_fit.ensures ∙ c.if-not-groups_fit.true-raw)
+    not-fitting _ _ _ c.if-rows-gt128.false _ (sym c.groups_fit.ensures ∙ c.if-not-groups_fit.true)
 
 pub write_copies-requires : goal.write_copies-requires
 write_copies-requires c =
-    copies_requires _ _ _ c.if-rows-gt128.false (sym c.groups_fit.ensures ∙ c.if-not-groups_fit.false-raw)
+    copies_requires _ _ _ c.if-rows-gt128.false (sym c.groups_fit.ensures ∙ c.if-not-groups_fit.false)
 
 pub returns : goal.returns
 returns c =
-    copies_written _ _ _ c.if-rows-gt128.false (sym c.groups_fit.ensures ∙ c.if-not-groups_fit.false-raw) _ _ c.write_copies.ensures
+    copies_written _ _ _ c.if-rows-gt128.false (sym c.groups_fit.ensures ∙ c.if-not-groups_fit.false) _ _ c.write_copies.ensures

@@ -5,7 +5,7 @@ use Rattle.reduce_added.proofs.Copying.{copies_none, copies_some}
 use Rattle.reduce_added.proofs.copies.copies_in.Goals as goal
 
 pub returns-then-not-holds : goal.returns-then-not-holds
-returns-then-not-holds c = stored-none _ _ (copies_none _ _ (sym c.holds.ensures ∙ c.if-not-holds.true-raw))
+returns-then-not-holds c = stored-none _ _ (copies_none _ _ (sym c.holds.ensures ∙ c.if-not-holds.true))
 
 pub loop-i-init : goal.loop-i-init
 loop-i-init c = each_start _ _ _ _
@@ -14,7 +14,7 @@ pub copy_to-at-requires : goal.copy_to-at-requires
 copy_to-at-requires c =
     let l = c.loop-i in
     let a = c.args in
-    let e = copies_some a.row a.group.now (sym c.holds.ensures ∙ c.if-not-holds.false-raw) in
+    let e = copies_some a.row a.group.now (sym c.holds.ensures ∙ c.if-not-holds.false) in
     each-count _ _ l.i 0 _ c.loop-i-test.true l.invariant (rw e at c.requires)
 
 pub loop-i-preserved : goal.loop-i-preserved
@@ -28,5 +28,5 @@ shape_of-free c = c.loop-i.invariant.1.same
 pub returns : goal.returns
 returns c =
     let a = c.args in
-    let e = copies_some a.row a.group.now (sym c.holds.ensures ∙ c.if-not-holds.false-raw) in
+    let e = copies_some a.row a.group.now (sym c.holds.ensures ∙ c.if-not-holds.false) in
     rw e (each-end _ _ _ c.loop-i-test.false c.loop-i.invariant)

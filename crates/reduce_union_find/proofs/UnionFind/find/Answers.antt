@@ -14,15 +14,15 @@ pub is_taken-requires : goal.is_taken-requires
 is_taken-requires c = wide c
 
 pub returns-then-not-is_taken : goal.returns-then-not-is_taken
-returns-then-not-is_taken c = sym (find_untaken _ _ _ (sym c.is_taken.ensures ∙ c.if-not-is_taken.true-raw))
+returns-then-not-is_taken c = sym (find_untaken _ _ _ (sym c.is_taken.ensures ∙ c.if-not-is_taken.true))
 
 pub returns-then-element-choices : goal.returns-then-element-choices
 returns-then-element-choices c = sym (find_out _ _ _ c.if-element-choices.true)
 
 pub climb-requires : goal.climb-requires
-climb-requires c = ((wide c).0, taken-ends _ _ (sym c.is_taken.ensures ∙ c.if-not-is_taken.false-raw) _ c.if-element-choices.false)
+climb-requires c = ((wide c).0, taken-ends _ _ (sym c.is_taken.ensures ∙ c.if-not-is_taken.false) _ c.if-element-choices.false)
 
 pub returns : goal.returns
 returns c =
     ap done (root_is _ _ _ c.climb.ensures)
-    ∙ sym (find_root _ _ _ (sym c.is_taken.ensures ∙ c.if-not-is_taken.false-raw) c.if-element-choices.false)
+    ∙ sym (find_root _ _ _ (sym c.is_taken.ensures ∙ c.if-not-is_taken.false) c.if-element-choices.false)

@@ -14,16 +14,16 @@ pub is_taken-requires : goal.is_taken-requires
 is_taken-requires c = wide c
 
 pub returns-then-not-is_taken : goal.returns-then-not-is_taken
-returns-then-not-is_taken c = sym (groups_untaken _ _ _ _ (sym c.is_taken.ensures ∙ c.if-not-is_taken.true-raw))
+returns-then-not-is_taken c = sym (groups_untaken _ _ _ _ (sym c.is_taken.ensures ∙ c.if-not-is_taken.true))
 
 pub returns-then-members-ne64 : goal.returns-then-members-ne64
-returns-then-members-ne64 c = sym (groups-members _ _ _ _ (sym c.is_taken.ensures ∙ c.if-not-is_taken.false-raw) c.if-members-ne64.true)
+returns-then-members-ne64 c = sym (groups-members _ _ _ _ (sym c.is_taken.ensures ∙ c.if-not-is_taken.false) c.if-members-ne64.true)
 
 pub returns-then-ends-ne64 : goal.returns-then-ends-ne64
-returns-then-ends-ne64 c = sym (groups-ends _ _ _ _ (sym c.is_taken.ensures ∙ c.if-not-is_taken.false-raw) c.if-ends-ne64.true)
+returns-then-ends-ne64 c = sym (groups-ends _ _ _ _ (sym c.is_taken.ensures ∙ c.if-not-is_taken.false) c.if-ends-ne64.true)
 
 pub write_all-requires : goal.write_all-requires
-write_all-requires c = (taken_climbs _ _ (wide c).0 (sym c.is_taken.ensures ∙ c.if-not-is_taken.false-raw), c.if-members-ne64.false, c.if-ends-ne64.false)
+write_all-requires c = (taken_climbs _ _ (wide c).0 (sym c.is_taken.ensures ∙ c.if-not-is_taken.false), c.if-members-ne64.false, c.if-ends-ne64.false)
 
 pub shape_of-members : goal.shape_of-members
 shape_of-members c = c.write_all.auto.members
@@ -35,4 +35,4 @@ pub returns : goal.returns
 returns c =
     c.write_all.ensures
     ∙ ap groups_written (roots_are _ _)
-    ∙ sym (groups-wrote _ _ _ _ (sym c.is_taken.ensures ∙ c.if-not-is_taken.false-raw) c.if-members-ne64.false c.if-ends-ne64.false)
+    ∙ sym (groups-wrote _ _ _ _ (sym c.is_taken.ensures ∙ c.if-not-is_taken.false) c.if-members-ne64.false c.if-ends-ne64.false)

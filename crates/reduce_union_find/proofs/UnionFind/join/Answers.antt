@@ -16,7 +16,7 @@ is_taken-requires c = wide c
 
 pub returns-then-not-is_taken : goal.returns-then-not-is_taken
 returns-then-not-is_taken c =
-    c.refused.ensures ∙ sym (join_untaken _ _ _ _ (sym c.is_taken.ensures ∙ c.if-not-is_taken.true-raw))
+    c.refused.ensures ∙ sym (join_untaken _ _ _ _ (sym c.is_taken.ensures ∙ c.if-not-is_taken.true))
 
 pub returns-then-left-choices : goal.returns-then-left-choices
 returns-then-left-choices c = c.refused-then-left-choices.ensures ∙ sym (join_left_out _ _ _ _ c.if-left-choices.true)
@@ -25,19 +25,19 @@ pub returns-then-right-choices : goal.returns-then-right-choices
 returns-then-right-choices c = c.refused-then-right-choices.ensures ∙ sym (join_right_out _ _ _ _ c.if-right-choices.true)
 
 pub climb-left_root-requires : goal.climb-left_root-requires
-climb-left_root-requires c = ((wide c).0, taken-ends _ _ (sym c.is_taken.ensures ∙ c.if-not-is_taken.false-raw) _ c.if-left-choices.false)
+climb-left_root-requires c = ((wide c).0, taken-ends _ _ (sym c.is_taken.ensures ∙ c.if-not-is_taken.false) _ c.if-left-choices.false)
 
 pub climb-right_root-requires : goal.climb-right_root-requires
-climb-right_root-requires c = ((wide c).0, taken-ends _ _ (sym c.is_taken.ensures ∙ c.if-not-is_taken.false-raw) _ c.if-right-choices.false)
+climb-right_root-requires c = ((wide c).0, taken-ends _ _ (sym c.is_taken.ensures ∙ c.if-not-is_taken.false) _ c.if-right-choices.false)
 
 pub link-requires : goal.link-requires
 link-requires c =
     let uf = c.args.self in
     rw (root_is uf _ _ c.climb-left_root.ensures, root_is uf _ _ c.climb-right_root.ensures)
-    (roots_fit _ _ _ _ (sym c.is_taken.ensures ∙ c.if-not-is_taken.false-raw) c.if-left-choices.false c.if-right-choices.false)
+    (roots_fit _ _ _ _ (sym c.is_taken.ensures ∙ c.if-not-is_taken.false) c.if-left-choices.false c.if-right-choices.false)
 
 pub returns : goal.returns
 returns c =
     c.link.ensures
     ∙ ap₂ (linked _) (root_is _ _ _ c.climb-left_root.ensures) (root_is _ _ _ c.climb-right_root.ensures)
-    ∙ sym (join_links _ _ _ _ (sym c.is_taken.ensures ∙ c.if-not-is_taken.false-raw) c.if-left-choices.false c.if-right-choices.false)
+    ∙ sym (join_links _ _ _ _ (sym c.is_taken.ensures ∙ c.if-not-is_taken.false) c.if-left-choices.false c.if-right-choices.false)

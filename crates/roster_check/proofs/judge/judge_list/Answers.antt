@@ -15,11 +15,11 @@ overflow_add-result c =
 
 pub returns-then-not-row_keeps : goal.returns-then-not-row_keeps
 returns-then-not-row_keeps c =
-    list_stops _ _ _ _ _ c.loop-i-test.true c.loop-i.invariant.1 (sym c.row_keeps.ensures ∙ c.if-not-row_keeps.true-raw)
+    list_stops _ _ _ _ _ c.loop-i-test.true c.loop-i.invariant.1 (sym c.row_keeps.ensures ∙ c.if-not-row_keeps.true)
 
 pub loop-i-preserved : goal.loop-i-preserved
 loop-i-preserved c =
-    (search rules, list-next _ _ _ _ _ c.loop-i-test.true c.loop-i.invariant.1 (sym c.row_keeps.ensures ∙ c.if-not-row_keeps.false-raw))
+    (search rules, list-next _ _ _ _ _ c.loop-i-test.true c.loop-i.invariant.1 (sym c.row_keeps.ensures ∙ c.if-not-row_keeps.false))
 
 pub returns : goal.returns
 returns c =

@@ -8,31 +8,31 @@ use Rattle.roster_check.proofs.roster_check.judge_lists.Goals as goal
 
 pub returns-then-not-in_range : goal.returns-then-not-in_range
 returns-then-not-in_range c =
-    lists-count _ (sym c.in_range.ensures ∙ c.if-not-in_range.true-raw)
+    lists-count _ (sym c.in_range.ensures ∙ c.if-not-in_range.true)
 
 pub lengths_keep-requires : goal.lengths_keep-requires
-lengths_keep-requires c = sym c.in_range.ensures ∙ c.if-not-in_range.false-raw
+lengths_keep-requires c = sym c.in_range.ensures ∙ c.if-not-in_range.false
 
 pub returns-then-not-lengths_keep : goal.returns-then-not-lengths_keep
 returns-then-not-lengths_keep c =
-    lists_length _ (sym c.in_range.ensures ∙ c.if-not-in_range.false-raw) (sym c.lengths_keep.ensures ∙ c.if-not-lengths_keep.true-raw)
+    lists_length _ (sym c.in_range.ensures ∙ c.if-not-in_range.false) (sym c.lengths_keep.ensures ∙ c.if-not-lengths_keep.true)
 
 pub returns-then-not-levels_rise : goal.returns-then-not-levels_rise
 returns-then-not-levels_rise c =
-    lists-levels _ (sym c.in_range.ensures ∙ c.if-not-in_range.false-raw) (sym c.lengths_keep.ensures ∙ c.if-not-lengths_keep.false-raw) (sym c.levels_rise.ensures ∙ c.if-not-levels_rise.true-raw)
+    lists-levels _ (sym c.in_range.ensures ∙ c.if-not-in_range.false) (sym c.lengths_keep.ensures ∙ c.if-not-lengths_keep.false) (sym c.levels_rise.ensures ∙ c.if-not-levels_rise.true)
 
 pub overflow_sub-last : goal.overflow_sub-last
 overflow_sub-last c =
-    omega (arith, some_level _ (sym c.in_range.ensures ∙ c.if-not-in_range.false-raw) (sym c.lengths_keep.ensures ∙ c.if-not-lengths_keep.false-raw))
+    omega (arith, some_level _ (sym c.in_range.ensures ∙ c.if-not-in_range.false) (sym c.lengths_keep.ensures ∙ c.if-not-lengths_keep.false))
 
 pub bounds-levels-last : goal.bounds-levels-last
 bounds-levels-last c =
-    search (rules, some_level _ (sym c.in_range.ensures ∙ c.if-not-in_range.false-raw) (sym c.lengths_keep.ensures ∙ c.if-not-lengths_keep.false-raw))
+    search (rules, some_level _ (sym c.in_range.ensures ∙ c.if-not-in_range.false) (sym c.lengths_keep.ensures ∙ c.if-not-lengths_keep.false))
 
 pub returns-then-not-preferences_keep : goal.returns-then-not-preferences_keep
 returns-then-not-preferences_keep c =
-    lists_preference _ (sym c.in_range.ensures ∙ c.if-not-in_range.false-raw) (sym c.lengths_keep.ensures ∙ c.if-not-lengths_keep.false-raw) (sym c.levels_rise.ensures ∙ c.if-not-levels_rise.false-raw) refl c.preferences_keep.ensures (c.if-not-preferences_keep.true-raw)
+    lists_preference _ (sym c.in_range.ensures ∙ c.if-not-in_range.false) (sym c.lengths_keep.ensures ∙ c.if-not-lengths_keep.false) (sym c.levels_rise.ensures ∙ c.if-not-levels_rise.false) refl c.preferences_keep.ensures (c.if-not-preferences_keep.true)
 
 pub returns : goal.returns
 returns c =
-    lists-good _ (sym c.in_range.ensures ∙ c.if-not-in_range.false-raw) (sym c.lengths_keep.ensures ∙ c.if-not-lengths_keep.false-raw) (sym c.levels_rise.ensures ∙ c.if-not-levels_rise.false-raw) refl c.preferences_keep.ensures (c.if-not-preferences_keep.false-raw)
+    lists-good _ (sym c.in_range.ensures ∙ c.if-not-in_range.false) (sym c.lengths_keep.ensures ∙ c.if-not-lengths_keep.false) (sym c.levels_rise.ensures ∙ c.if-not-levels_rise.false) refl c.preferences_keep.ensures (c.if-not-preferences_keep.false)

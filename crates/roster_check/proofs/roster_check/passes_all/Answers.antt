@@ -7,7 +7,7 @@ use Rattle.roster_check.proofs.roster_check.passes_all.Goals as goal
 
 pub returns-then-not-all_apart : goal.returns-then-not-all_apart
 returns-then-not-all_apart c =
-    passes-apart _ (sym c.all_apart.ensures ∙ c.if-not-all_apart.true-raw)
+    passes-apart _ (sym c.all_apart.ensures ∙ c.if-not-all_apart.true)
 
 pub seats_fit-requires : goal.seats_fit-requires
 seats_fit-requires c =
@@ -16,12 +16,12 @@ seats_fit-requires c =
 
 pub returns-then-not-seats_fit : goal.returns-then-not-seats_fit
 returns-then-not-seats_fit c =
-    passes_seats _ c.requires (sym c.all_apart.ensures ∙ c.if-not-all_apart.false-raw) (sym c.seats_fit.ensures ∙ c.if-not-seats_fit.true-raw)
+    passes_seats _ c.requires (sym c.all_apart.ensures ∙ c.if-not-all_apart.false) (sym c.seats_fit.ensures ∙ c.if-not-seats_fit.true)
 
 pub returns-then-not-keeps_every_row : goal.returns-then-not-keeps_every_row
 returns-then-not-keeps_every_row c =
-    passes-rows _ c.requires (sym c.all_apart.ensures ∙ c.if-not-all_apart.false-raw) (sym c.seats_fit.ensures ∙ c.if-not-seats_fit.false-raw) (sym c.keeps_every_row.ensures ∙ c.if-not-keeps_every_row.true-raw)
+    passes-rows _ c.requires (sym c.all_apart.ensures ∙ c.if-not-all_apart.false) (sym c.seats_fit.ensures ∙ c.if-not-seats_fit.false) (sym c.keeps_every_row.ensures ∙ c.if-not-keeps_every_row.true)
 
 pub returns : goal.returns
 returns c =
-    c.keeps_assignment_rows.ensures ∙ passes-assignment _ c.requires (sym c.all_apart.ensures ∙ c.if-not-all_apart.false-raw) (sym c.seats_fit.ensures ∙ c.if-not-seats_fit.false-raw) (sym c.keeps_every_row.ensures ∙ c.if-not-keeps_every_row.false-raw)
+    c.keeps_assignment_rows.ensures ∙ passes-assignment _ c.requires (sym c.all_apart.ensures ∙ c.if-not-all_apart.false) (sym c.seats_fit.ensures ∙ c.if-not-seats_fit.false) (sym c.keeps_every_row.ensures ∙ c.if-not-keeps_every_row.false)

@@ -17,11 +17,11 @@ overflow_add-end c =
 
 pub returns-then-not-slots_apart : goal.returns-then-not-slots_apart
 returns-then-not-slots_apart c =
-    one-meets _ _ _ _ _ (part_at _ _ _ _ c.loop-chooser.invariant.1) c.slots_apart.ensures c.loop-chooser-test.true (c.if-not-slots_apart.true-raw)
+    one-meets _ _ _ _ _ (part_at _ _ _ _ c.loop-chooser.invariant.1) c.slots_apart.ensures c.loop-chooser-test.true (c.if-not-slots_apart.true)
 
 pub loop-chooser-preserved : goal.loop-chooser-preserved
 loop-chooser-preserved c =
-    (omega arith, next_start _ _ _ c.loop-chooser.invariant.1, none-meets _ c.args.choosers _ _ _ (part_at _ _ _ _ c.loop-chooser.invariant.1) c.slots_apart.ensures (c.if-not-slots_apart.false-raw) c.loop-chooser.invariant.2)
+    (omega arith, next_start _ _ _ c.loop-chooser.invariant.1, none-meets _ c.args.choosers _ _ _ (part_at _ _ _ _ c.loop-chooser.invariant.1) c.slots_apart.ensures (c.if-not-slots_apart.false) c.loop-chooser.invariant.2)
 
 pub returns : goal.returns
 returns c =

@@ -12,11 +12,11 @@ loop-choice-init c =
 
 pub returns-then-not-choice_fits : goal.returns-then-not-choice_fits
 returns-then-not-choice_fits c =
-    seat-fails c.args.mins.now c.args.maxs.now c.args.plan.now c.args.roster.now c.loop-choice.choice c.loop-choice-test.true c.requires.0 c.count_seats-seats.ensures c.choice_fits.ensures (c.if-not-choice_fits.true-raw)
+    seat-fails c.args.mins.now c.args.maxs.now c.args.plan.now c.args.roster.now c.loop-choice.choice c.loop-choice-test.true c.requires.0 c.count_seats-seats.ensures c.choice_fits.ensures (c.if-not-choice_fits.true)
 
 pub loop-choice-preserved : goal.loop-choice-preserved
 loop-choice-preserved c =
-    (omega arith, seat-fits c.args.mins.now c.args.maxs.now c.args.plan.now c.args.roster.now c.loop-choice.choice c.loop-choice-test.true c.requires.0 c.count_seats-seats.ensures c.choice_fits.ensures (c.if-not-choice_fits.false-raw) c.loop-choice.invariant.1)
+    (omega arith, seat-fits c.args.mins.now c.args.maxs.now c.args.plan.now c.args.roster.now c.loop-choice.choice c.loop-choice-test.true c.requires.0 c.count_seats-seats.ensures c.choice_fits.ensures (c.if-not-choice_fits.false) c.loop-choice.invariant.1)
 
 pub returns : goal.returns
 returns c =

@@ -12,11 +12,11 @@ loop-i-init c =
 pub returns-then-not-keeps_assignment_row : goal.returns-then-not-keeps_assignment_row
 unfolding keeps_assignment_rows
 returns-then-not-keeps_assignment_row c =
-    sym (rest-fails _ _ _ c.loop-i-test.true c.loop-i.invariant.1 (sym c.keeps_assignment_row.ensures ∙ c.if-not-keeps_assignment_row.true-raw))
+    sym (rest-fails _ _ _ c.loop-i-test.true c.loop-i.invariant.1 (sym c.keeps_assignment_row.ensures ∙ c.if-not-keeps_assignment_row.true))
 
 pub loop-i-preserved : goal.loop-i-preserved
 loop-i-preserved c =
-    (search rules, rest-next _ _ _ c.loop-i-test.true c.loop-i.invariant.1 (sym c.keeps_assignment_row.ensures ∙ c.if-not-keeps_assignment_row.false-raw))
+    (search rules, rest-next _ _ _ c.loop-i-test.true c.loop-i.invariant.1 (sym c.keeps_assignment_row.ensures ∙ c.if-not-keeps_assignment_row.false))
 
 pub returns : goal.returns
 unfolding keeps_assignment_rows

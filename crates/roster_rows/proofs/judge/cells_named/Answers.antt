@@ -11,11 +11,11 @@ loop-i-init c =
 
 pub returns-then-not-names_scheduled : goal.returns-then-not-names_scheduled
 returns-then-not-names_scheduled c =
-    sym (rest-fails _ _ _ c.loop-i-test.true c.loop-i.invariant.1 (sym c.names_scheduled.ensures ∙ c.if-not-names_scheduled.true-raw))
+    sym (rest-fails _ _ _ c.loop-i-test.true c.loop-i.invariant.1 (sym c.names_scheduled.ensures ∙ c.if-not-names_scheduled.true))
 
 pub loop-i-preserved : goal.loop-i-preserved
 loop-i-preserved c =
-    (search rules, rest-next _ _ _ c.loop-i-test.true c.loop-i.invariant.1 (sym c.names_scheduled.ensures ∙ c.if-not-names_scheduled.false-raw))
+    (search rules, rest-next _ _ _ c.loop-i-test.true c.loop-i.invariant.1 (sym c.names_scheduled.ensures ∙ c.if-not-names_scheduled.false))
 
 pub returns : goal.returns
 returns c =

@@ -21,11 +21,11 @@ returns-then-rows-at c =
 
 pub returns-then-not-row_allows : goal.returns-then-not-row_allows
 returns-then-not-row_allows c =
-    sym (each-fails _ _ _ _ _ _ _ c.loop-i-test.true c.loop-i.invariant.1 (sym c.row_allows.ensures ∙ c.if-not-row_allows.true-raw))
+    sym (each-fails _ _ _ _ _ _ _ c.loop-i-test.true c.loop-i.invariant.1 (sym c.row_allows.ensures ∙ c.if-not-row_allows.true))
 
 pub loop-i-preserved : goal.loop-i-preserved
 loop-i-preserved c =
-    (search rules, each_next _ _ _ _ _ _ _ c.loop-i-test.true c.loop-i.invariant.1 (sym c.row_allows.ensures ∙ c.if-not-row_allows.false-raw))
+    (search rules, each_next _ _ _ _ _ _ _ c.loop-i-test.true c.loop-i.invariant.1 (sym c.row_allows.ensures ∙ c.if-not-row_allows.false))
 
 pub returns : goal.returns
 returns c =

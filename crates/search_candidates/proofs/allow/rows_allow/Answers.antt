@@ -5,12 +5,12 @@ use Rattle.search_candidates.proofs.allow.rows_allow.Goals as goal
 
 pub returns-then-not-each_allows : goal.returns-then-not-each_allows
 returns-then-not-each_allows c =
-    sym (each-refuses _ _ _ _ _ _ _ (sym c.each_allows.ensures ∙ c.if-not-each_allows.true-raw))
+    sym (each-refuses _ _ _ _ _ _ _ (sym c.each_allows.ensures ∙ c.if-not-each_allows.true))
 
 pub returns-then-not-last : goal.returns-then-not-last
 returns-then-not-last c =
-    sym (not_last _ _ _ _ _ _ _ (c.if-not-last.true-raw) (sym c.each_allows.ensures ∙ c.if-not-each_allows.false-raw))
+    sym (not_last _ _ _ _ _ _ _ (c.if-not-last.true) (sym c.each_allows.ensures ∙ c.if-not-each_allows.false))
 
 pub returns : goal.returns
 returns c =
-    c.limits_hold.ensures ∙ sym (last_tested _ _ _ _ _ _ _ (c.if-not-last.false-raw) (sym c.each_allows.ensures ∙ c.if-not-each_allows.false-raw))
+    c.limits_hold.ensures ∙ sym (last_tested _ _ _ _ _ _ _ (c.if-not-last.false) (sym c.each_allows.ensures ∙ c.if-not-each_allows.false))

@@ -10,11 +10,11 @@ loop-i-init c =
 
 pub returns-then-not-limit_holds : goal.returns-then-not-limit_holds
 returns-then-not-limit_holds c =
-    sym (limits_fail _ _ _ _ c.loop-i-test.true c.loop-i.invariant.1 (sym c.limit_holds.ensures ∙ c.if-not-limit_holds.true-raw))
+    sym (limits_fail _ _ _ _ c.loop-i-test.true c.loop-i.invariant.1 (sym c.limit_holds.ensures ∙ c.if-not-limit_holds.true))
 
 pub loop-i-preserved : goal.loop-i-preserved
 loop-i-preserved c =
-    (search rules, limits-next _ _ _ _ c.loop-i-test.true c.loop-i.invariant.1 (sym c.limit_holds.ensures ∙ c.if-not-limit_holds.false-raw))
+    (search rules, limits-next _ _ _ _ c.loop-i-test.true c.loop-i.invariant.1 (sym c.limit_holds.ensures ∙ c.if-not-limit_holds.false))
 
 pub returns : goal.returns
 returns c =

@@ -4,8 +4,8 @@ use Rattle.search_map.proofs.entry.add_row.Goals as goal
 
 pub returns-then-not-is_concerned : goal.returns-then-not-is_concerned
 returns-then-not-is_concerned c =
-    wrote_none _ _ _ c.is_concerned.ensures (c.if-not-is_concerned.true-raw)
+    wrote_none _ _ _ c.is_concerned.ensures (c.if-not-is_concerned.true)
 
 pub returns : goal.returns
 returns c =
-    wrote_one _ _ _ c.is_concerned.ensures (c.if-not-is_concerned.false-raw) c.put.ensures
+    wrote_one _ _ _ c.is_concerned.ensures (c.if-not-is_concerned.false) c.put.ensures

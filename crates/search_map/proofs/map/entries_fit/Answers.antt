@@ -13,11 +13,11 @@ loop-choice-init c =
 
 pub returns-then-not-entry_fits : goal.returns-then-not-entry_fits
 returns-then-not-entry_fits c =
-    sym (one-fails _ _ _ c.loop-choice-test.true (sym c.entry_fits.ensures ∙ c.if-not-entry_fits.true-raw))
+    sym (one-fails _ _ _ c.loop-choice-test.true (sym c.entry_fits.ensures ∙ c.if-not-entry_fits.true))
 
 pub loop-choice-preserved : goal.loop-choice-preserved
 loop-choice-preserved c =
-    (search rules, all_more _ _ c.loop-choice.invariant.1 (sym c.entry_fits.ensures ∙ c.if-not-entry_fits.false-raw))
+    (search rules, all_more _ _ c.loop-choice.invariant.1 (sym c.entry_fits.ensures ∙ c.if-not-entry_fits.false))
 
 pub returns : goal.returns
 returns c =

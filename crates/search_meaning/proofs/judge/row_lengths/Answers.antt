@@ -7,7 +7,7 @@ pub returns-then-rows-counts : goal.returns-then-rows-counts
 returns-then-rows-counts c = rows_differ _ _ _ _ c.if-rows-counts.true
 
 pub returns-then-not-is_full : goal.returns-then-not-is_full
-returns-then-not-is_full c = map-short _ _ _ _ c.if-rows-counts.false (sym c.is_full.ensures ∙ c.if-not-is_full.true-raw)
+returns-then-not-is_full c = map-short _ _ _ _ c.if-rows-counts.false (sym c.is_full.ensures ∙ c.if-not-is_full.true)
 
 pub returns : goal.returns
-returns c = whole-decides _ _ _ _ c.if-rows-counts.false (sym c.is_full.ensures ∙ c.if-not-is_full.false-raw)
+returns c = whole-decides _ _ _ _ c.if-rows-counts.false (sym c.is_full.ensures ∙ c.if-not-is_full.false)

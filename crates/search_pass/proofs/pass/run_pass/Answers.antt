@@ -8,11 +8,11 @@ use Rattle.search_pass.proofs.pass.run_pass.Goals as goal
 
 pub returns-then-not-pass_fits : goal.returns-then-not-pass_fits
 returns-then-not-pass_fits c =
-    pass-not-taken _ _ _ _ _ _ _ _ _ _ _ _ _ _ _ c.pass_fits.ensures (c.if-not-pass_fits.true-raw)
+    pass-not-taken _ _ _ _ _ _ _ _ _ _ _ _ _ _ _ c.pass_fits.ensures (c.if-not-pass_fits.true)
 
 pub walk_pass-requires : goal.walk_pass-requires
 walk_pass-requires c =
-    let h = sym c.pass_fits.ensures ∙ c.if-not-pass_fits.false-raw in
+    let h = sym c.pass_fits.ensures ∙ c.if-not-pass_fits.false in
     (walk-taken _ _ _ _ _ _ _ _ _ _ _ _ h, plan-fits true _ _ _ _ [] (map_of [] [] []) [] _ [] [] _ h)
 
 pub shape_of-plan : goal.shape_of-plan
@@ -21,4 +21,4 @@ shape_of-plan c =
 
 pub returns : goal.returns
 returns c =
-    pass-walked _ _ _ _ _ _ _ _ _ _ _ _ _ _ _ c.pass_fits.ensures _ (c.if-not-pass_fits.false-raw) c.walk_pass.ensures
+    pass-walked _ _ _ _ _ _ _ _ _ _ _ _ _ _ _ c.pass_fits.ensures _ (c.if-not-pass_fits.false) c.walk_pass.ensures

@@ -9,11 +9,11 @@ loop-i-init c = drops_start _ _ _ _
 
 pub loop-i-preserved-then-not-stays_beside : goal.loop-i-preserved-then-not-stays_beside
 loop-i-preserved-then-not-stays_beside c =
-    drops_out _ _ _ _ _ _ _ _ c.loop-i.invariant c.loop-i-test.true (sym c.stays_beside.ensures ∙ c.if-not-stays_beside.true-raw)
+    drops_out _ _ _ _ _ _ _ _ c.loop-i.invariant c.loop-i-test.true (sym c.stays_beside.ensures ∙ c.if-not-stays_beside.true)
 
 pub loop-i-preserved : goal.loop-i-preserved
 loop-i-preserved c =
-    drops_in _ _ _ _ _ _ _ _ c.loop-i.invariant c.loop-i-test.true (omega (arith, c.requires.0.few, c.requires.0.masks-full)) (omega (arith, c.requires.0.few, c.requires.0.levels-full)) (sym c.stays_beside.ensures ∙ c.if-not-stays_beside.false-raw)
+    drops_in _ _ _ _ _ _ _ _ c.loop-i.invariant c.loop-i-test.true (omega (arith, c.requires.0.few, c.requires.0.masks-full)) (omega (arith, c.requires.0.few, c.requires.0.levels-full)) (sym c.stays_beside.ensures ∙ c.if-not-stays_beside.false)
 
 pub shape_of-masks : goal.shape_of-masks
 shape_of-masks c = c.loop-i.invariant.same-masks
