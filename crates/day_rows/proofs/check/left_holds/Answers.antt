@@ -4,9 +4,6 @@ use mathlib.Core.Bool.{true, false≢true}
 use mathlib.Core.List.{[], ◌∷◌}
 use Prim.Native.Nat.{ℕ}
 use lib.Dec.{ltb}
-use types.Run.{OneOf, miss}
-use denote.Enum.Declared.{tag_of}
-use Rattle.day_rows.specs.contracts.table.Name.{the_type}
 use Rattle.day_rows.specs.steps.Lines.{on_left}
 use Rattle.day_rows.specs.Check.{column_holds}
 use Rattle.day_rows.specs.declared.table.Name.{Name}
@@ -15,14 +12,14 @@ use Rattle.day_rows.specs.declared.check.Counts.{Counts}
 use Rattle.day_rows.proofs.check.left_holds.Goals as goal
 
 -- past the arms the name is none of those that they take, and of the others only one may stand here
-rest : (names : Name) (value : ℕ) (counts : Counts) → OneOf (0 ∷ 3 ∷ 4 ∷ 5 ∷ 6 ∷ []) (tag_of the_type names) → on_left names ≡ true → ltb value counts.choosers ≡ column_holds counts names value
-rest name.None value counts k h = absurd (false≢true h)
-rest name.Choice value counts k h = absurd (miss (0 ∷ 3 ∷ 4 ∷ 5 ∷ 6 ∷ []) 1 tt k)
-rest name.Slot value counts k h = absurd (miss (0 ∷ 3 ∷ 4 ∷ 5 ∷ 6 ∷ []) 2 tt k)
-rest name.Chooser value counts k h = refl
-rest name.Limit value counts k h = absurd (false≢true h)
-rest name.Offset value counts k h = absurd (false≢true h)
-rest name.Op value counts k h = absurd (false≢true h)
+rest : (names : Name) (value : ℕ) (counts : Counts) → (names ≡ name.Choice → ⊥) → (names ≡ name.Slot → ⊥) → on_left names ≡ true → ltb value counts.choosers ≡ column_holds counts names value
+rest name.None value counts k0 k1 h = absurd (false≢true h)
+rest name.Choice value counts k0 k1 h = absurd (k0 refl)
+rest name.Slot value counts k0 k1 h = absurd (k1 refl)
+rest name.Chooser value counts k0 k1 h = refl
+rest name.Limit value counts k0 k1 h = absurd (false≢true h)
+rest name.Offset value counts k0 k1 h = absurd (false≢true h)
+rest name.Op value counts k0 k1 h = absurd (false≢true h)
 
 pub returns-in-Choice : goal.returns-in-Choice
 returns-in-Choice c =
@@ -34,4 +31,4 @@ returns-in-Slot c =
 
 pub returns-in_default : goal.returns-in_default
 returns-in_default c =
-    rest c.args.names c.args.value c.args.counts c.in_default.in_default-own.keys3 c.requires
+    rest c.args.names c.args.value c.args.counts c.in_default.not-Choice c.in_default.not-Slot c.requires

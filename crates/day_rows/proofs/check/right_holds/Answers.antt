@@ -1,11 +1,8 @@
 -- In each arm the column's name is known; past them it is a limit.
-use mathlib.Core.Path.{◌≡◌, sym}
+use mathlib.Core.Path.{◌≡◌, refl, sym}
 use mathlib.Core.Bool.{true, false≢true}
 use mathlib.Core.List.{[], ◌∷◌}
 use Prim.Native.Nat.{ℕ, ◌≤◌}
-use types.Run.{OneOf, miss}
-use denote.Enum.Declared.{tag_of}
-use Rattle.day_rows.specs.contracts.table.Name.{the_type}
 use Rattle.day_rows.specs.steps.Lines.{on_right}
 use Rattle.day_rows.specs.Check.{column_holds}
 use Rattle.day_rows.specs.declared.table.Name.{Name}
@@ -16,14 +13,14 @@ use native.Mathlib.Omega.{arith}
 use Rattle.day_rows.proofs.check.right_holds.Goals as goal
 
 -- past the arms the name is none of those that they take, and of the others only one may stand here
-rest : (names : Name) (value : ℕ) (counts : Counts) → OneOf (0 ∷ 4 ∷ 5 ∷ 6 ∷ []) (tag_of the_type names) → on_right names ≡ true → value ≤ 65535 → true ≡ column_holds counts names value
-rest name.None value counts k h l = absurd (false≢true h)
-rest name.Choice value counts k h l = absurd (miss (0 ∷ 4 ∷ 5 ∷ 6 ∷ []) 1 tt k)
-rest name.Slot value counts k h l = absurd (miss (0 ∷ 4 ∷ 5 ∷ 6 ∷ []) 2 tt k)
-rest name.Chooser value counts k h l = absurd (miss (0 ∷ 4 ∷ 5 ∷ 6 ∷ []) 3 tt k)
-rest name.Limit value counts k h l = sym (le-leb value 65535 l)
-rest name.Offset value counts k h l = absurd (false≢true h)
-rest name.Op value counts k h l = absurd (false≢true h)
+rest : (names : Name) (value : ℕ) (counts : Counts) → (names ≡ name.Choice → ⊥) → (names ≡ name.Slot → ⊥) → (names ≡ name.Chooser → ⊥) → on_right names ≡ true → value ≤ 65535 → true ≡ column_holds counts names value
+rest name.None value counts k0 k1 k2 h l = absurd (false≢true h)
+rest name.Choice value counts k0 k1 k2 h l = absurd (k0 refl)
+rest name.Slot value counts k0 k1 k2 h l = absurd (k1 refl)
+rest name.Chooser value counts k0 k1 k2 h l = absurd (k2 refl)
+rest name.Limit value counts k0 k1 k2 h l = sym (le-leb value 65535 l)
+rest name.Offset value counts k0 k1 k2 h l = absurd (false≢true h)
+rest name.Op value counts k0 k1 k2 h l = absurd (false≢true h)
 
 pub returns-in-Choice : goal.returns-in-Choice
 returns-in-Choice c =
@@ -39,4 +36,4 @@ returns-in-Chooser c =
 
 pub returns-in_default : goal.returns-in_default
 returns-in_default c =
-    rest c.args.names c.args.value c.args.counts c.in_default.in_default-own.keys4 c.requires (omega arith)
+    rest c.args.names c.args.value c.args.counts c.in_default.not-Choice c.in_default.not-Slot c.in_default.not-Chooser c.requires (omega arith)
