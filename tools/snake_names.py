@@ -46,6 +46,14 @@ def defined(text):
     return out
 
 
+def of_libraries(text):
+    """Names that a file imports from a library, which keep their spelling there."""
+    out = set()
+    for m in re.finditer(r"^use (?!Rattle\.(?!std\.))[\w.]+\.\{(.*)\}", text, re.M):
+        out |= {it.strip().split(" as ")[0] for it in m[1].split(",")}
+    return out
+
+
 def main(argv):
     say = "--say" in argv
     argv = [a for a in argv if a != "--say"]
@@ -117,7 +125,7 @@ def main(argv):
         return 0
     changed = 0
     for p, t in texts.items():
-        keep = goals.get(p, set())
+        keep = goals.get(p, set()) | of_libraries(t)
         rust = p.endswith(".rt")
         out, at = [], 0
         for m in TOKEN.finditer(t):

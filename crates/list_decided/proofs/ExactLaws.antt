@@ -1,7 +1,7 @@
 -- What is decided with a choice: a row told by the start alone stays so, and what rows leave of a choice's
 -- places is what the plan check's sentences say.
 use mathlib.Core.Path.{◌≡◌, refl, sym, ◌∙◌, ap, ap₂}
-use mathlib.Core.Bool.{Bool, true, false, ◌&&◌, ◌||◌, not, cond, and_true, and_false, and_assoc}
+use mathlib.Core.Bool.{Bool, true, false, ◌&&◌, ◌||◌, not, cond, and-true, and-false, and_assoc}
 use mathlib.Core.List.{List, [], ◌∷◌, ◌++◌}
 use mathlib.Core.Logic.{◌⊎◌, inl, inr}
 use Prim.Native.Nat.{ℕ, zero, suc, ◌+◌, ◌-◌, ◌≤◌, ◌<◌, max}
@@ -266,7 +266,7 @@ module _ (slots at : ℕ) (few : slots ≤ 24) (within : at ≤ slots) where
         (λ e. rw (ne_eqb 255 place (λ f. absurd (omega (arith, f, l, few))))))
     apart-left place (inr e) =
         ap (λ (d : ℕ). has d at) (sym (apart-omitted slots place domain (omega (arith, e, few))))
-        ∙ sym (and_true (has domain at))
+        ∙ sym (and-true (has domain at))
         ∙ ap (λ (b : Bool). has domain at && b) (rw e (sym (either (eqb (place_of slots at) 255))))
       where
         either : (b : Bool) → (b || not b) ≡ true
@@ -280,7 +280,7 @@ module _ (slots at : ℕ) (few : slots ≤ 24) (within : at ≤ slots) where
         ∙ ap (λ (b : Bool). has domain at && b) (rw (ne_eqb place 255 (λ f. absurd (omega (arith, f, l, few)))) (ap not (eqb_flip (place_of slots at) place)))
     apart-right place (inr e) =
         ap (λ (d : ℕ). has d at) (sym (apart-omitted slots place domain (omega (arith, e, few))))
-        ∙ sym (and_true (has domain at))
+        ∙ sym (and-true (has domain at))
         ∙ ap (λ (b : Bool). has domain at && b) (rw e)
 
     -- what a row of kind 5 leaves: the slot with the number up less down
@@ -289,7 +289,7 @@ module _ (slots at : ℕ) (few : slots ≤ 24) (within : at ≤ slots) where
       where
         nothing : 0 ≡ facing slots up down domain → (at < slots → at + down ≡ up → ⊥) → has (facing slots up down domain) at ≡ (has domain at && (ltb at slots && eqb (at + down) up))
         nothing z n =
-            ap (λ (d : ℕ). has d at) (sym z) ∙ has-nothing at ∙ sym (and_false (has domain at))
+            ap (λ (d : ℕ). has d at) (sym z) ∙ has-nothing at ∙ sym (and-false (has domain at))
             ∙ ap (λ (b : Bool). has domain at && b) (here (ltb at slots) refl)
           where
             here : (b : Bool) → ltb at slots ≡ b → false ≡ (b && eqb (at + down) up)
@@ -469,7 +469,7 @@ pub all_exact : (slots : ℕ) (start : List ℕ) (rows : List ℕ) (domain at : 
     → ((i : ℕ) → i < length start → (slot_of start i < slots) ⊎ (slot_of start i ≡ 255))
     → has (rows_leave slots (length start) start rows domain) at ≡ (has domain at && keeps_rows (start ++ (place_of slots at ∷ [])) rows)
 unfolding AllWith rows_leave keeps_rows all_of
-all_exact slots start [] domain at few within short decided placed = sym (and_true (has domain at))
+all_exact slots start [] domain at few within short decided placed = sym (and-true (has domain at))
 all_exact slots start (number ∷ rows) domain at few within short decided placed =
     all_exact slots start rows (row_leaves slots (length start) start (row_of number) domain) at few within short decided.1 placed
     ∙ ap (λ (b : Bool). b && keeps_rows (start ++ (place_of slots at ∷ [])) rows) (row_exact slots start (row_of number) domain at few within short decided.0 placed)

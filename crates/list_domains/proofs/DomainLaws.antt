@@ -1,7 +1,7 @@
 -- What the laws of every rule stand on: where a plan's choices stand, and that they stay within
 -- what is left of their domains.
 use mathlib.Core.Path.{◌≡◌, refl, sym, ◌∙◌, ap, ap₂}
-use mathlib.Core.Bool.{Bool, true, false, ◌&&◌, ◌||◌, not, cond, false≢true, or_true}
+use mathlib.Core.Bool.{Bool, true, false, ◌&&◌, ◌||◌, not, cond, false≢true, or-true}
 use mathlib.Core.List.{List}
 use mathlib.Core.Logic.{◌⊎◌, inl, inr}
 use Prim.Native.Nat.{ℕ, zero, suc, ◌+◌, ◌≤◌, ◌<◌}
@@ -231,7 +231,7 @@ first-within day plan domains f s firsts i l =
     go (Placed.scheduled k) = rw (number_in day.counts.slots (slot_of plan i) k, lt-ltb (slot_of plan i) day.counts.slots k)
     go (Placed.left_out e o) =
         rw (number-out day.counts.slots (slot_of plan i) (omega (arith, e, s)), eq-eqb day.counts.slots day.counts.slots refl, eq-eqb (get_or day.optional i 0) 1 o)
-        (or_true (ltb day.counts.slots day.counts.slots))
+        (or-true (ltb day.counts.slots day.counts.slots))
 
 -- the first so many choices have their first domains
 pub record FirstUpTo (slots : ℕ) (optional domains : List ℕ) (n : ℕ) : Type 0 where

@@ -1,6 +1,6 @@
 -- The next place that a choice may take and that its domain has.
 use Rattle.std.proofs.Common.{◌≡◌, ℕ, zero, suc, ◌+◌, ◌-◌, ◌≤◌, Bool, true, false, cond, ◌&&◌, ltb, List, get_or, refl, ap, ◌∙◌, pos_of_ne-zero, arith, ltb-false, le-ltb}
-use mathlib.Core.Bool.{and_false}
+use mathlib.Core.Bool.{and-false}
 use Rattle.base_choice_sets.specs.Sets.{has}
 use Rattle.plan_check.specs.Day.{Day}
 use Rattle.list_nodes.specs.steps.Walk.{place_of, place_fits}
@@ -61,7 +61,7 @@ has_in slots choosers mins optional sums domain choice few fits (suc left) h =
         ≡ cond (place_fits slots choosers mins optional sums choice (place_of slots (slots - left)) && has domain (place_number slots (place_of slots (slots - left)))) (suc left)
         (next_in slots choosers mins optional sums domain choice left)
     go true t ih = rw (number, t, fits (slots - left) (omega arith) t)
-    go false t ih = rw (number, t, and_false (place_fits slots choosers mins optional sums choice (place_of slots (slots - left)))) ih
+    go false t ih = rw (number, t, and-false (place_fits slots choosers mins optional sums choice (place_of slots (slots - left)))) ih
 
 -- within a day's slots and places too the next place of the domain is the next that the choice may take
 pub within_in : (slots choosers : ℕ) (mins optional sums : List ℕ) (domain choice : ℕ) → slots ≤ 24 → AllFit slots choosers mins optional sums domain choice → (left : ℕ) → left ≤ slots + 1

@@ -1,6 +1,6 @@
 -- The next place that a domain has, by the bits of the domain.
 use Rattle.std.proofs.Common.{◌≡◌, ℕ, zero, suc, ◌+◌, ◌-◌, ◌/◌, ◌%◌, ◌^◌, ◌<◌, ◌≤◌, cond, eqb, leb, List, length, take, drop, sym, refl, ap, ◌∙◌, mod-lt, add_comm, div-one, arith, length-drop, take_all, shr-shr, le-leb}
-use mathlib.Core.Bool.{and_false}
+use mathlib.Core.Bool.{and-false}
 use borrow.Author.Tests.{lt-leb}
 use lib.Count.{under, count_trailing_zeros}
 use Rattle.day_rows.specs.declared.check.Counts.{Counts}
@@ -81,7 +81,7 @@ module _ (slots domain left : ℕ) where
   -- with more left than there are places no place is found
   pub next_past : slots + 1 < left → 0 ≡ next_within slots domain left
   unfolding next_within
-  next_past h = sym (rw (lt-leb left (slots + 1) h, and_false (leb slots 24)))
+  next_past h = sym (rw (lt-leb left (slots + 1) h, and-false (leb slots 24)))
 
   -- else the next place is the next that the domain has
   pub next-within : slots ≤ 24 → left ≤ slots + 1 → next_within slots domain left ≡ next_has slots domain left

@@ -1,7 +1,7 @@
 -- The plan check in plain mathematics: it says yes exactly to the feasible plans of `PlanMeans`, and what
 -- each kind of row asks of a plan.
 use mathlib.Core.Path.{◌≡◌, refl, sym, ◌∙◌, ap}
-use mathlib.Core.Bool.{Bool, true, false, ◌&&◌, ◌||◌, not, false≢true, or_true}
+use mathlib.Core.Bool.{Bool, true, false, ◌&&◌, ◌||◌, not, false≢true, or-true}
 use mathlib.Core.List.{List}
 use mathlib.Core.Logic.{◌↔◌}
 use Prim.Native.Nat.{ℕ, ◌≤◌, ◌<◌}
@@ -43,7 +43,7 @@ module _ (slots : ℕ) (optional plan : List ℕ) (choice : ℕ) where
   pub placed_by : Placed slots optional plan choice → place_allowed slots optional plan choice ≡ true
   unfolding place_allowed omission_allowed
   placed_by (scheduled h) = rw (lt-ltb _ _ h)
-  placed_by (left_out e f) = rw (eq-eqb _ _ e, eq-eqb _ _ f) (or_true (ltb (slot_of plan choice) slots))
+  placed_by (left_out e f) = rw (eq-eqb _ _ e, eq-eqb _ _ f) (or-true (ltb (slot_of plan choice) slots))
 
 -- the plan check says yes exactly to feasible plans
 module _ (day : Day) (plan : List ℕ) where

@@ -1,6 +1,6 @@
 -- Which records are taken: a law for each way through the check, and what a record that is taken has.
 use mathlib.Core.Path.{◌≡◌, ◌∙◌}
-use mathlib.Core.Bool.{true, false, and_false}
+use mathlib.Core.Bool.{true, false, and-false}
 use Prim.Native.Nat.{ℕ, ◌≤◌, ◌<◌}
 use native.Mathlib.Decide.{ℕ_discrete}
 use borrow.Author.Tests.{lt-ltb, le-ltb, lt-leb, le-leb, eq-eqb, ne_eqb, ltb-true, leb-true}
@@ -24,7 +24,7 @@ module _ (c : ℕ) (uf : UnionFind) (i : ℕ) where
   -- an entry whose parent isn't an element isn't sound
   pub sound-out : (parent_of uf i ≡ 255 → ⊥) → c ≤ parent_of uf i → sound_at c uf i ≡ false
   unfolding sound_at
-  sound-out n o = simp (ne_eqb _ _ n, le-ltb _ _ o, and_false)
+  sound-out n o = simp (ne_eqb _ _ n, le-ltb _ _ o, and-false)
 
   -- an entry whose parent is an element: the parent's height decides
   pub sound-up : height_of uf i ≤ 64 → (parent_of uf i ≡ 255 → ⊥) → parent_of uf i < c → sound_at c uf i ≡ ltb (height_of uf i) (height_of uf (parent_of uf i))
@@ -39,7 +39,7 @@ taken-over c uf h = simp (lt-leb _ _ h)
 -- a record with an entry that isn't sound isn't taken
 pub taken_unsound : (c : ℕ) (uf : UnionFind) (i : ℕ) → i < c → sound_at c uf i ≡ false → taken c uf ≡ false
 unfolding taken
-taken_unsound c uf i l e = simp (one-fails c (sound_at c uf) i l e, and_false)
+taken_unsound c uf i l e = simp (one-fails c (sound_at c uf) i l e, and-false)
 
 -- a record with every entry sound is taken
 pub taken-sound : (c : ℕ) (uf : UnionFind) → c ≤ 64 → all_below c (sound_at c uf) ≡ true → taken c uf ≡ true

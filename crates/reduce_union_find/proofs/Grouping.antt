@@ -1,6 +1,6 @@
 -- `groups`: a law for each way through it.
 use mathlib.Core.Path.{◌≡◌, refl}
-use mathlib.Core.Bool.{true, false, and_false}
+use mathlib.Core.Bool.{true, false, and-false}
 use mathlib.Core.List.{List}
 use Prim.Native.Nat.{ℕ}
 use borrow.Author.Tests.{eq-eqb, ne_eqb}
@@ -28,7 +28,7 @@ module _ (c : ℕ) (uf : UnionFind) (members ends : List ℕ) where
   -- groups with a pool of ends that isn't 64 long: 2
   pub groups-ends : taken c uf ≡ true → (length ends ≡ 64 → ⊥) → groups_of c uf members ends ≡ outcome (refuse 2) (members, ends)
   unfolding groups_of
-  groups-ends t n = simp (t, ne_eqb _ _ n, and_false)
+  groups-ends t n = simp (t, ne_eqb _ _ n, and-false)
 
   -- otherwise groups writes the classes of equal root
   pub groups-wrote : taken c uf ≡ true → length members ≡ 64 → length ends ≡ 64 → groups_of c uf members ends ≡ groups_written (classes c (root_of uf))

@@ -1,6 +1,6 @@
 -- `join` and `link`: a law for each way through them.
 use mathlib.Core.Path.{◌≡◌}
-use mathlib.Core.Bool.{true, false, and_false}
+use mathlib.Core.Bool.{true, false, and-false}
 use Prim.Native.Nat.{ℕ, ◌+◌, ◌≤◌, ◌<◌, min}
 use native.Mathlib.Omega.{arith}
 use borrow.Author.Tests.{lt-ltb, le-ltb, eq-eqb, ne_eqb}
@@ -37,12 +37,12 @@ module _ (c : ℕ) (uf : UnionFind) (left right : ℕ) where
   -- a join of a left element that isn't under C is refused
   pub join_left_out : c ≤ left → join_of c uf left right ≡ refused_join uf
   unfolding join_of
-  join_left_out h = simp (le-ltb _ _ h, and_false)
+  join_left_out h = simp (le-ltb _ _ h, and-false)
 
   -- a join of a right element that isn't under C is refused
   pub join_right_out : c ≤ right → join_of c uf left right ≡ refused_join uf
   unfolding join_of
-  join_right_out h = simp (le-ltb _ _ h, and_false)
+  join_right_out h = simp (le-ltb _ _ h, and-false)
 
   -- otherwise a join links the two roots
   pub join_links : taken c uf ≡ true → left < c → right < c → join_of c uf left right ≡ linked uf (root_of uf left) (root_of uf right)

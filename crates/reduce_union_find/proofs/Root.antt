@@ -1,6 +1,6 @@
 -- The climb to the root: where it starts from it ends, its steps, and the root it gives.
 use mathlib.Core.Path.{◌≡◌, refl, sym}
-use mathlib.Core.Bool.{true, false, and_false}
+use mathlib.Core.Bool.{true, false, and-false}
 use mathlib.Core.List.{List}
 use Prim.Native.Nat.{ℕ, zero, suc, ◌+◌, ◌-◌, ◌≤◌, ◌<◌}
 use native.Mathlib.Decide.{ℕ_discrete}
@@ -91,7 +91,7 @@ module _ (c : ℕ) (uf : UnionFind) (element : ℕ) where
   -- find of an element that isn't under C: 1
   pub find_out : c ≤ element → find_of c uf element ≡ refuse 1
   unfolding find_of
-  find_out h = simp (le-ltb _ _ h, and_false)
+  find_out h = simp (le-ltb _ _ h, and-false)
 
   -- otherwise find gives the element's root
   pub find_root : taken c uf ≡ true → element < c → find_of c uf element ≡ done (root_of uf element)

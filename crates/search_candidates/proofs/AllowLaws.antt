@@ -1,7 +1,7 @@
 -- What the rows allow, row by row; and that a plan's own places are allowed: whatever is decided as the plan
 -- has it, each row that the plan keeps allows the plan's place.
 use mathlib.Core.Path.{◌≡◌, refl, sym, ◌∙◌, ap}
-use mathlib.Core.Bool.{Bool, true, false, false≢true, or_true}
+use mathlib.Core.Bool.{Bool, true, false, false≢true, or-true}
 use mathlib.Core.List.{List, [], ◌∷◌}
 use mathlib.Core.Logic.{◌↔◌, ◌⊎◌, ⊎_elim}
 use Prim.Native.Nat.{ℕ, ◌+◌, ◌-◌, ◌≤◌, ◌<◌}
@@ -71,11 +71,11 @@ module _ (plan : List ℕ) (row : Row) where
 module _ (decisions : List ℕ) (choice place : ℕ) (row : Row) where
   pub pair-right-kept : row.left ≡ choice → ends_keep row place (decision_of decisions row.right) ≡ true → pair_allows decisions choice place row ≡ true
   unfolding pair_allows
-  pair-right-kept e k = rw (eq-eqb _ _ e, k) (or_true (is_undecided decisions row.right))
+  pair-right-kept e k = rw (eq-eqb _ _ e, k) (or-true (is_undecided decisions row.right))
 
   pub pair-left-kept : (row.left ≡ choice → ⊥) → ends_keep row (decision_of decisions row.left) place ≡ true → pair_allows decisions choice place row ≡ true
   unfolding pair_allows
-  pair-left-kept n k = rw (ne_eqb _ _ n, k) (or_true (is_undecided decisions row.left))
+  pair-left-kept n k = rw (ne_eqb _ _ n, k) (or-true (is_undecided decisions row.left))
 
 -- what a plan keeps, it is allowed to do
 module _ (plan decisions : List ℕ) (sizes : ℕ → ℕ) (choice place : ℕ) (row : Row) (kept : keeps_row plan row ≡ true) where

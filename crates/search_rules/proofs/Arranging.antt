@@ -1,6 +1,6 @@
 -- A whole permutation of 0..C-1 is an order of the choices, each once.
 use mathlib.Core.Path.{◌≡◌, refl, sym, ◌∙◌, ap}
-use mathlib.Core.Bool.{Bool, true, false, or_true, false≢true}
+use mathlib.Core.Bool.{Bool, true, false, or-true, false≢true}
 use mathlib.Core.List.Memᴰ
 use mathlib.Core.List.{List, [], ◌∷◌, Memᴰ}
 use mathlib.Core.Logic.{⊎_elim}
@@ -22,7 +22,7 @@ pub any_in : (x : ℕ) (l : List ℕ) → Memᴰ x l → any_of (eqb x) l ≡ tr
 unfolding any_of
 any_in x [] m = absurd (Memᴰ.not-nil m)
 any_in x (y ∷ l) m =
-    ⊎_elim (λ e. rw (eq-eqb x y e)) (λ k. rw (any_in x l k) (or_true (eqb x y))) (Memᴰ.cases_cons m)
+    ⊎_elim (λ e. rw (eq-eqb x y e)) (λ k. rw (any_in x l k) (or-true (eqb x y))) (Memᴰ.cases_cons m)
 
 -- what is counted in a list stands in it
 pub counted_in : (x : ℕ) (l : List ℕ) → 0 < times_in x l → Memᴰ x l

@@ -13,15 +13,15 @@ loop-i-init c =
 
 pub overflow_mul-step : goal.overflow_mul-step
 overflow_mul-step c =
-    omega (arith, c.requires.1 c.loop-i.i c.loop-i-test.true)
+    omega (arith, c.requires.fact_2 c.loop-i.i c.loop-i-test.true)
 
 pub overflow_add-at : goal.overflow_add-at
 overflow_add-at c =
-    omega (arith, c.requires.1 c.loop-i.i c.loop-i-test.true)
+    omega (arith, c.requires.fact_2 c.loop-i.i c.loop-i-test.true)
 
 pub word_at-requires : goal.word_at-requires
 word_at-requires c =
-    c.requires.1 c.loop-i.i c.loop-i-test.true
+    c.requires.fact_2 c.loop-i.i c.loop-i-test.true
 
 pub loop-i-preserved : goal.loop-i-preserved
 loop-i-preserved c =

@@ -11,7 +11,7 @@ returns-then-not-optional_in c =
 
 pub levels_in-requires : goal.levels_in-requires
 levels_in-requires c =
-    levels-within (within c.requires.0 c.requires.1 c.places-places.ensures)
+    levels-within (within c.requires.fact_1 c.requires.fact_2 c.places-places.ensures)
 
 pub returns-then-not-levels_in : goal.returns-then-not-levels_in
 returns-then-not-levels_in c =
@@ -19,26 +19,26 @@ returns-then-not-levels_in c =
 
 pub overflow_sub-places : goal.overflow_sub-places
 overflow_sub-places c =
-    let w = within c.requires.0 c.requires.1 c.places-places.ensures in
+    let w = within c.requires.fact_1 c.requires.fact_2 c.places-places.ensures in
     omega arith
 
 pub word_at-last-requires : goal.word_at-last-requires
 word_at-last-requires c =
-    let w = within c.requires.0 c.requires.1 c.places-places.ensures in
+    let w = within c.requires.fact_1 c.requires.fact_2 c.places-places.ensures in
     omega arith
 
 pub preferences_in-requires : goal.preferences_in-requires
 preferences_in-requires c =
-    preferences-within (within c.requires.0 c.requires.1 c.places-places.ensures)
+    preferences-within (within c.requires.fact_1 c.requires.fact_2 c.places-places.ensures)
 
 pub returns-then-not-preferences_in : goal.returns-then-not-preferences_in
 returns-then-not-preferences_in c =
-    body_preference _ _ c.places-places.ensures c.optional_in.ensures (c.if-not-optional_in.false) c.levels_in.ensures (c.if-not-levels_in.false) (within c.requires.0 c.requires.1 c.places-places.ensures) c.word_at-last.ensures c.preferences_in.ensures (c.if-not-preferences_in.true)
+    body_preference _ _ c.places-places.ensures c.optional_in.ensures (c.if-not-optional_in.false) c.levels_in.ensures (c.if-not-levels_in.false) (within c.requires.fact_1 c.requires.fact_2 c.places-places.ensures) c.word_at-last.ensures c.preferences_in.ensures (c.if-not-preferences_in.true)
 
 pub rows_in-requires : goal.rows_in-requires
 rows_in-requires c =
-    rows_ask (within c.requires.0 c.requires.1 c.places-places.ensures) refl
+    rows_ask (within c.requires.fact_1 c.requires.fact_2 c.places-places.ensures) refl
 
 pub returns : goal.returns
 returns c =
-    body_rows _ _ c.places-places.ensures c.optional_in.ensures (c.if-not-optional_in.false) c.levels_in.ensures (c.if-not-levels_in.false) (within c.requires.0 c.requires.1 c.places-places.ensures) c.word_at-last.ensures c.preferences_in.ensures (c.if-not-preferences_in.false) c.for_rows.ensures c.rows_in.ensures
+    body_rows _ _ c.places-places.ensures c.optional_in.ensures (c.if-not-optional_in.false) c.levels_in.ensures (c.if-not-levels_in.false) (within c.requires.fact_1 c.requires.fact_2 c.places-places.ensures) c.word_at-last.ensures c.preferences_in.ensures (c.if-not-preferences_in.false) c.for_rows.ensures c.rows_in.ensures

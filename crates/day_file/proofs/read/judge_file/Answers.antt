@@ -15,7 +15,7 @@ counts_in-requires c =
 pub judge_body-requires : goal.judge_body-requires
 judge_body-requires c =
     let h = file-head _ c.judge_head-head.ensures (ap checked_tells c.in_default.is) in
-    (counts-keep _ h c.counts_in.ensures, counts_end _ h c.counts_in.ensures)
+    record { fact_1 = counts-keep _ h c.counts_in.ensures; fact_2 = counts_end _ h c.counts_in.ensures }
 
 pub returns : goal.returns
 returns c =

@@ -5,7 +5,7 @@ use Rattle.day_write.proofs.put.put_head.Goals as goal
 
 pub put_length-requires : goal.put_length-requires
 put_length-requires c =
-    (rest-fits (in_range _ c.requires.0) c.rest_of.ensures, c.requires.1)
+    record { fact_1 = rest-fits (in_range _ c.requires.fact_1) c.rest_of.ensures; fact_2 = c.requires.fact_2 }
 
 pub returns : goal.returns
 returns c =

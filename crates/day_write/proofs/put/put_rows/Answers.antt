@@ -14,7 +14,7 @@ loop-i-init c =
 
 pub put_row-requires : goal.put_row-requires
 put_row-requires c =
-    (omega arith, c.requires.1 _ c.loop-i-test.true)
+    record { fact_1 = omega arith; fact_2 = c.requires.fact_2 _ c.loop-i-test.true }
 
 pub loop-i-preserved : goal.loop-i-preserved
 loop-i-preserved c =
@@ -23,4 +23,4 @@ loop-i-preserved c =
 
 pub returns : goal.returns
 returns c =
-    (search rules, sets-done _ _ _ _ _ c.loop-i.invariant.0 c.loop-i-test.false c.loop-i.invariant.2)
+    record { fact_1 = search rules; fact_2 = sets-done _ _ _ _ _ c.loop-i.invariant.0 c.loop-i-test.false c.loop-i.invariant.2 }

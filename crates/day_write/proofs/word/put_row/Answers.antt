@@ -7,11 +7,11 @@ use Rattle.day_write.proofs.word.put_row.Goals as goal
 
 pub overflow_cast-pool : goal.overflow_cast-pool
 overflow_cast-pool c =
-    record { fits = kind_fits _ c.of-row.ensures c.requires.1 }
+    record { fits = kind_fits _ c.of-row.ensures c.requires.fact_2 }
 
 pub overflow_cast-pool-2 : goal.overflow_cast-pool-2
 overflow_cast-pool-2 c =
-    record { fits = left-fits _ c.of-row.ensures c.requires.1 }
+    record { fits = left-fits _ c.of-row.ensures c.requires.fact_2 }
 
 pub bounds-pool-at-2 : goal.bounds-pool-at-2
 bounds-pool-at-2 c =

@@ -4,9 +4,9 @@ use Rattle.list_look.proofs.weigh.narrow_by_limits.Goals as goal
 
 pub returns-then-bounds : goal.returns-then-bounds
 returns-then-bounds c =
-    limits-broken _ _ _ _ _ _ _ c.bounds_of-bounds.ensures.0 c.if-bounds.true c.no_places.ensures
+    limits-broken _ _ _ _ _ _ _ c.bounds_of-bounds.ensures.broken_value c.if-bounds.true c.no_places.ensures
 
 pub returns : goal.returns
 returns c =
     let b = c.bounds_of-bounds.ensures in
-    limits-by _ _ _ _ _ _ _ b.0 c.if-bounds.false b.1.0 b.1.1 c.narrow_by_tables.ensures c.narrow_by_counts.ensures
+    limits-by _ _ _ _ _ _ _ b.broken_value c.if-bounds.false b.wants_value.0 b.wants_value.1 c.narrow_by_tables.ensures c.narrow_by_counts.ensures

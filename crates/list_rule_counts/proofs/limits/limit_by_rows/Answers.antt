@@ -11,8 +11,8 @@ loop-i-init c =
 pub loop-i-preserved : goal.loop-i-preserved
 loop-i-preserved c =
     let h = c.loop-i-test.true in let inv = c.loop-i.invariant.1 in
-    (search rules, (rows-turn _ _ _ _ _ _ h inv.0 c.limit_by_row.ensures.0, rows-turn _ _ _ _ _ _ h inv.1 c.limit_by_row.ensures.1))
+    (search rules, (rows-turn _ _ _ _ _ _ h inv.0 c.limit_by_row.ensures.least_after, rows-turn _ _ _ _ _ _ h inv.1 c.limit_by_row.ensures.under_after))
 
 pub returns : goal.returns
 returns c =
-    (rows_end _ _ _ _ _ c.loop-i-test.false c.loop-i.invariant.1.0, rows_end _ _ _ _ _ c.loop-i-test.false c.loop-i.invariant.1.1)
+    record { least_after = rows_end _ _ _ _ _ c.loop-i-test.false c.loop-i.invariant.1.0; under_after = rows_end _ _ _ _ _ c.loop-i-test.false c.loop-i.invariant.1.1 }

@@ -16,11 +16,11 @@ weigh_free-weighed-requires c =
 
 pub overflow_add-need : goal.overflow_add-need
 overflow_add-need c =
-    omega (arith, c.need_of-need.ensures.1, c.weigh_free-weighed.ensures.1.1)
+    omega (arith, c.need_of-need.ensures.1, c.weigh_free-weighed.ensures.fact_2.1)
 
 pub returns-then-need-weighed : goal.returns-then-need-weighed
 returns-then-need-weighed c =
-    once_spared _ _ _ _ _ _ _ _ _ _ _ _ _ _ c.need_of-need.ensures.0 c.weigh_free-weighed.ensures.0.0 c.weigh_free-weighed.ensures.1.0 c.if-need-weighed.true
+    once_spared _ _ _ _ _ _ _ _ _ _ _ _ _ _ c.need_of-need.ensures.0 c.weigh_free-weighed.ensures.fact.0 c.weigh_free-weighed.ensures.fact_2.0 c.if-need-weighed.true
 
 pub loop-choice-init : goal.loop-choice-init
 loop-choice-init c =
@@ -28,11 +28,11 @@ loop-choice-init c =
 
 pub next_domain-requires : goal.next_domain-requires
 next_domain-requires c =
-    (c.requires.0.1, (c.need_of-need.ensures.1, c.weigh_free-weighed.ensures.0.1))
+    (c.requires.0.1, (c.need_of-need.ensures.1, c.weigh_free-weighed.ensures.fact.1))
 
 pub loop-choice-preserved : goal.loop-choice-preserved
 loop-choice-preserved c =
-    ((omega (arith, c.loop-choice-test.true), simp length-set c.loop-choice.invariant.0.1), once-step _ _ _ _ _ _ _ _ _ _ _ _ _ _ _ _ _ c.loop-choice.invariant.1 (omega (arith, c.loop-choice-test.true, c.requires)) c.need_of-need.ensures.0 c.weigh_free-weighed.ensures.0.0 c.member-inside.ensures c.next_domain.ensures)
+    ((omega (arith, c.loop-choice-test.true), simp length-set c.loop-choice.invariant.0.1), once-step _ _ _ _ _ _ _ _ _ _ _ _ _ _ _ _ _ c.loop-choice.invariant.1 (omega (arith, c.loop-choice-test.true, c.requires)) c.need_of-need.ensures.0 c.weigh_free-weighed.ensures.fact.0 c.member-inside.ensures c.next_domain.ensures)
 
 pub returns : goal.returns
 returns c =

@@ -19,4 +19,4 @@ loop-choice-preserved c =
 
 pub returns : goal.returns
 returns c =
-    let e : c.loop-choice.choice ≡ c.args.choices = omega (arith, c.loop-choice-test.false, c.loop-choice.invariant.0.0) in ((rw e at c.loop-choice.invariant.1.0, omega (arith, e, c.loop-choice.invariant.0.1.0, c.requires.0)), (rw e at c.loop-choice.invariant.1.1, c.loop-choice.invariant.0.1.1))
+    let e : c.loop-choice.choice ≡ c.args.choices = omega (arith, c.loop-choice-test.false, c.loop-choice.invariant.0.0) in record { fact = (rw e at c.loop-choice.invariant.1.0, omega (arith, e, c.loop-choice.invariant.0.1.0, c.requires.0)); fact_2 = (rw e at c.loop-choice.invariant.1.1, c.loop-choice.invariant.0.1.1) }

@@ -7,7 +7,7 @@ use Rattle.plan_check.proofs.feasible.add_up.Goals as goal
 
 pub loop-choice-init : goal.loop-choice-init
 loop-choice-init c =
-    adding_start _ _ _ _ _ _ _ _ c.requires.1.0 c.requires.1.1 c.requires.1.2
+    adding_start _ _ _ _ _ _ _ _ c.requires.slot_min_value.0 c.requires.slot_min_value.1 c.requires.slot_min_value.2
 
 pub returns-then-not-omission_allowed : goal.returns-then-not-omission_allowed
 returns-then-not-omission_allowed c =
@@ -20,19 +20,19 @@ loop-choice-preserved-then-slots-slot c =
 
 pub add_at-requires : goal.add_at-requires
 add_at-requires c =
-    (omega (arith, c.if-slots-slot.false, c.requires.0.few-slots), room _ _ _ _ _ _ c.loop-choice.invariant.min-sums (λ k. omega (arith, c.type_inv.mins k)) (omega (arith, c.requires.0.few-choices, c.loop-choice-test.true)) (omega (arith, c.wide_amount.ensures.1)))
+    (omega (arith, c.if-slots-slot.false, c.requires.shapes.few-slots), room _ _ _ _ _ _ c.loop-choice.invariant.min-sums (λ k. omega (arith, c.type_inv.mins k)) (omega (arith, c.requires.shapes.few-choices, c.loop-choice-test.true)) (omega (arith, c.wide_amount.ensures.1)))
 
 pub add_at-requires-in-loop-choice : goal.add_at-requires-in-loop-choice
 add_at-requires-in-loop-choice c =
-    (omega (arith, c.if-slots-slot.false, c.requires.0.few-slots), room _ _ _ _ _ _ c.loop-choice.invariant.max-sums (λ k. omega (arith, c.type_inv.maxs k)) (omega (arith, c.requires.0.few-choices, c.loop-choice-test.true)) (omega (arith, c.wide_amount-in-loop-choice.ensures.1)))
+    (omega (arith, c.if-slots-slot.false, c.requires.shapes.few-slots), room _ _ _ _ _ _ c.loop-choice.invariant.max-sums (λ k. omega (arith, c.type_inv.maxs k)) (omega (arith, c.requires.shapes.few-choices, c.loop-choice-test.true)) (omega (arith, c.wide_amount-in-loop-choice.ensures.1)))
 
 pub add_at-requires-in-loop-choice-2 : goal.add_at-requires-in-loop-choice-2
 add_at-requires-in-loop-choice-2 c =
-    (omega (arith, c.if-slots-slot.false, c.requires.0.few-slots), room _ _ _ _ _ _ c.loop-choice.invariant.counted (λ k. omega arith) (omega (arith, c.requires.0.few-choices, c.loop-choice-test.true)) (omega arith))
+    (omega (arith, c.if-slots-slot.false, c.requires.shapes.few-slots), room _ _ _ _ _ _ c.loop-choice.invariant.counted (λ k. omega arith) (omega (arith, c.requires.shapes.few-choices, c.loop-choice-test.true)) (omega arith))
 
 pub loop-choice-preserved : goal.loop-choice-preserved
 loop-choice-preserved c =
-    adding_put _ _ _ _ _ _ _ _ _ c.loop-choice.invariant c.loop-choice-test.true _ _ _ _ _ _ c.wide-slot.ensures.0 c.if-slots-slot.false c.requires.0.few-slots c.wide_amount.ensures.0 c.wide_amount-in-loop-choice.ensures.0 c.add_at.ensures c.add_at-in-loop-choice.ensures c.add_at-in-loop-choice-2.ensures
+    adding_put _ _ _ _ _ _ _ _ _ c.loop-choice.invariant c.loop-choice-test.true _ _ _ _ _ _ c.wide-slot.ensures.0 c.if-slots-slot.false c.requires.shapes.few-slots c.wide_amount.ensures.0 c.wide_amount-in-loop-choice.ensures.0 c.add_at.ensures c.add_at-in-loop-choice.ensures c.add_at-in-loop-choice-2.ensures
 
 pub returns : goal.returns
 returns c =

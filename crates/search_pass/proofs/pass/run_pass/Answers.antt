@@ -13,7 +13,7 @@ returns-then-not-pass_fits c =
 pub walk_pass-requires : goal.walk_pass-requires
 walk_pass-requires c =
     let h = sym c.pass_fits.ensures ∙ c.if-not-pass_fits.false in
-    (walk-taken _ _ _ _ _ _ _ _ _ _ _ _ h, plan-fits true _ _ _ _ [] (map_of [] [] []) [] _ [] [] _ h)
+    record { fact = walk-taken _ _ _ _ _ _ _ _ _ _ _ _ h; plan_len = plan-fits true _ _ _ _ [] (map_of [] [] []) [] _ [] [] _ h }
 
 pub shape_of-plan : goal.shape_of-plan
 shape_of-plan c =

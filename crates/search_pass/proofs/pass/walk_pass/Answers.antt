@@ -8,11 +8,11 @@ use Rattle.search_pass.proofs.pass.walk_pass.Goals as goal
 
 pub all_max-requires : goal.all_max-requires
 all_max-requires c =
-    (order-within _ c.requires.0, order-few _ c.requires.0)
+    (order-within _ c.requires.fact, order-few _ c.requires.fact)
 
 pub loop-left-init : goal.loop-left-init
 loop-left-init c =
-    (at-start _ _ _ _ _ _ _ _ c.requires.0 c.new-state.ensures.0 c.new-state.ensures.1 c.new-state.ensures.2 c.new-state.ensures.3 c.new-state.ensures.4 c.new-state.ensures.5 c.new-state.ensures.6 (remains-all _ _ c.all_max.ensures) c.no_candidates-candidates.ensures c.no_places-next.ensures c.no_places-end.ensures, c.requires.0)
+    (at-start _ _ _ _ _ _ _ _ c.requires.fact c.new-state.ensures.0 c.new-state.ensures.1 c.new-state.ensures.2 c.new-state.ensures.3 c.new-state.ensures.4 c.new-state.ensures.5 c.new-state.ensures.6 (remains-all _ _ c.all_max.ensures) c.no_candidates-candidates.ensures c.no_places-next.ensures c.no_places-end.ensures, c.requires.fact)
 
 pub enum_told-1 : goal.enum_told-1
 enum_told-1 c =
@@ -68,4 +68,4 @@ shape_of-plan c =
 
 pub returns : goal.returns
 returns c =
-    at-goal _ _ _ _ _ _ _ _ _ _ _ c.loop-left.invariant.0 c.loop-left.invariant.1 _ _ (sym (ap sight_tells c.in-Goal.is) ∙ c.sight_at.ensures) (plan-written _ c.loop-left.invariant.1 _ _ _ c.loop-left.invariant.0.counted.entries c.requires.1 c.write_plan.ensures)
+    at-goal _ _ _ _ _ _ _ _ _ _ _ c.loop-left.invariant.0 c.loop-left.invariant.1 _ _ (sym (ap sight_tells c.in-Goal.is) ∙ c.sight_at.ensures) (plan-written _ c.loop-left.invariant.1 _ _ _ c.loop-left.invariant.0.counted.entries c.requires.plan_len c.write_plan.ensures)
