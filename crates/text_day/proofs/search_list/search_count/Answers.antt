@@ -1,4 +1,3 @@
-use Prim.Native.Nat.{◌-◌}
 use native.Mathlib.Omega.{arith}
 use Rattle.text_day.proofs.SearchLaws.{search-on, search-done}
 use Rattle.text_day.proofs.search_list.search_count.Goals as goal
