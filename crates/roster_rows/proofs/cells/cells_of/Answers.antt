@@ -1,7 +1,6 @@
 -- The part of the roster that is handed out is the chooser's window of it.
 use native.Mathlib.Omega.{arith}
-use Rattle.roster_rows.proofs.CellLaws.{past-part, cells-part, cells-small, cells-end}
-use borrow.Author.Rules.{rules}
+use Rattle.roster_rows.proofs.CellLaws.{past-part, cells-part, cells-small}
 use Rattle.roster_rows.proofs.cells.cells_of.Goals as goal
 
 pub returns-then-choosers-chooser : goal.returns-then-choosers-chooser
