@@ -14,6 +14,3 @@ overflow_add-end c = omega (arith, cells-small _ _ _ _ c.requires c.if-choosers-
 
 pub returns : goal.returns
 returns c = cells-part _ _ _
-
--- UNMATCHED slice-bounds-result-end-2
--- slice-bounds-result-end-2 c = search (rules, cells-end _ _ _ _ c.requires c.if-choosers-chooser.false)
