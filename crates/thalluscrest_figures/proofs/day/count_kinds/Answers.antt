@@ -1,4 +1,3 @@
-use Prim.Native.Nat.{◌-◌}
 use native.Mathlib.Omega.{arith}
 use Rattle.thalluscrest_figures.proofs.KindLaws.{kinds-on, kinds-done}
 use Rattle.thalluscrest_figures.proofs.day.count_kinds.Goals as goal
