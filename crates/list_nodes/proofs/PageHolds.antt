@@ -17,7 +17,7 @@ use Rattle.list_nodes.proofs.PageLaws.{Sized, none, more, put-page, page-length}
 use Rattle.list_nodes.proofs.Members.{sized-plans}
 use Rattle.list_nodes.specs.steps.Alive.{Eyes, events, Safe}
 use Rattle.list_nodes.specs.steps.Run.{Standing, standing, goes_on, run}
-use Rattle.list_nodes.specs.Page.{ended_told, goes_on_told, turns_told, page_put, Gives, ended, goes_on, out}
+use Rattle.list_nodes.specs.Page.{ended_told, goes_on_told, turns_told, page_put, Gives, ended, goes_on as told_on, out}
 use Rattle.list_nodes.proofs.AnyEyes.{any_eyes}
 use Rattle.list_nodes.proofs.Visits.{visits-few}
 use Rattle.list_nodes.proofs.RunLaws.{goes_true, goes_first, Ran, ran}
@@ -77,7 +77,7 @@ module _ (day : Day) (first room budget : ℕ) (buffer : List ℕ) where
       → 0 < room → met ≤ total day → Gives day first room budget buffer (goes_on_told written met) buffer'
   give_goes_on {written} w m b c t =
       let l : written ≡ room = omega arith in
-      rw (b, m, l) (goes_on c (omega arith))
+      rw (b, m, l) (told_on c (omega arith))
 
   give_out : {met : ℕ} {buffer' : List ℕ} → buffer' ≡ page_put day first room budget buffer (min room (met - first)) → budget < nodes day → met ≤ total day
       → (room ≡ 0) ⊎ (met ≤ first + room) → Gives day first room budget buffer (turns_told (min room (met - first)) met) buffer'

@@ -3,7 +3,7 @@
 use mathlib.Core.Path.{◌≡◌, refl, sym, ◌∙◌, ap}
 use mathlib.Core.Bool.{Bool, true, false, ◌&&◌, cond, false≢true}
 use mathlib.Core.List.Sublistᴰ
-use mathlib.Core.List.{List, [], ◌∷◌, map, Memᴰ, Sublistᴰ}
+use mathlib.Core.List.{List, [], ◌∷◌, ◌++◌, map, Memᴰ, Sublistᴰ}
 use mathlib.Core.Logic.{⊎_elim}
 use Prim.Native.Nat.{ℕ, ◌≤◌, ◌<◌}
 use native.Mathlib.Omega.{arith}
@@ -116,7 +116,7 @@ by-size-sub limit {some} {sets} s =
 pub minimal_picked : (listed sets : List CriticalSet) → minimal_from listed sets ≡ picked listed_within listed sets
 unfolding minimal_from picked
 minimal_picked listed [] = refl
-minimal_picked listed (set ∷ sets) = minimal_picked _ sets
+minimal_picked listed (set ∷ sets) = minimal_picked (cond (listed_within listed set) listed (listed ++ (set ∷ []))) sets
 
 -- a level's list is picked from the sets by size; for a limit that is no level there is none
 pub level-list-picked : (levels : List ℕ) (sets : List CriticalSet) (limit : ℕ) → level_list levels sets limit ≡ cond (is_level levels limit) (picked listed_within [] (by_size limit sets)) []

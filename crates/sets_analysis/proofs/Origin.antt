@@ -1,8 +1,8 @@
 -- Where kept sets come from: each is some chooser's set at some level of the day's list, and every such set
 -- that has room is covered by a kept one.
 use mathlib.Core.Path.{◌≡◌, refl, sym, ◌∙◌, ap}
-use mathlib.Core.Bool.{true, false, ◌&&◌, false≢true}
-use mathlib.Core.List.{List, [], ◌∷◌, Memᴰ}
+use mathlib.Core.Bool.{true, false, ◌&&◌, cond, false≢true}
+use mathlib.Core.List.{List, [], ◌∷◌, ◌++◌, Memᴰ}
 use mathlib.Core.Logic.{⊎_elim}
 use Prim.Native.Nat.{ℕ, ◌+◌, ◌-◌, ◌^◌, ◌≤◌, ◌<◌}
 use native.Mathlib.Omega.{arith}
@@ -24,7 +24,7 @@ use Rattle.sets_analysis.proofs.Covering.{CoverIn, cover_in, covered_self}
 pub kept-picked : (day : SetsDay) (kept sets : List CriticalSet) → kept_from day kept sets ≡ picked (skipped day) kept sets
 unfolding kept_from picked
 kept-picked day kept [] = refl
-kept-picked day kept (set ∷ sets) = kept-picked day _ sets
+kept-picked day kept (set ∷ sets) = kept-picked day (cond (skipped day kept set) kept (kept ++ (set ∷ []))) sets
 
 -- the kept sets are picked from the candidates, from none at the start
 pub kept-sets-picked : (day : SetsDay) → kept_sets day ≡ picked (skipped day) [] (candidates day)

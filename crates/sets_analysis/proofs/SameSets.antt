@@ -1,10 +1,10 @@
 -- Two lists of sets, each set of either covered by one of the other: they have one bound, and their levels'
 -- lists hold the same sets of choices.
 use mathlib.Core.Path.{◌≡◌, refl, sym, ◌∙◌}
-use mathlib.Core.Bool.{true}
+use mathlib.Core.Bool.{true, cond}
 use mathlib.Core.List.Memᴰ
 use mathlib.Core.List.{List, [], ◌∷◌, Memᴰ}
-use Prim.Native.Nat.{ℕ, ◌^◌, ◌≤◌, ◌<◌}
+use Prim.Native.Nat.{ℕ, ◌^◌, ◌≤◌, ◌<◌, min}
 use native.Mathlib.Omega.{arith}
 use borrow.Author.Tests.{le-leb, leb-true}
 use Rattle.base_lists.specs.All.{all_of}
@@ -77,7 +77,7 @@ same-lowers slots one other level same =
 same_lowered : (slots : ℕ) (one other : List CriticalSet) → SameSets one other → (bound : ℕ) (levels : List ℕ) → lowered_to slots one bound levels ≡ lowered_to slots other bound levels
 unfolding lowered_to
 same_lowered slots one other same bound [] = refl
-same_lowered slots one other same bound (level ∷ levels) = rw (same-lowers slots one other level same) (same_lowered slots one other same _ levels)
+same_lowered slots one other same bound (level ∷ levels) = rw (same-lowers slots one other level same) (same_lowered slots one other same (cond (lowers slots other level) (min bound level) bound) levels)
 
 -- the same sets have one bound
 pub same-bound : (day : SetsDay) (one other : List CriticalSet) → SameSets one other → bound_of day one ≡ bound_of day other

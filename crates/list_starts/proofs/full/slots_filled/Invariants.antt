@@ -8,7 +8,7 @@ use Rattle.base_lists.specs.Below.{all_below}
 use Rattle.list_starts.proofs.full.slots_filled.Given as goal
 
 abbrev pub invariant-loop-slot : goal.invariant-loop-slot
-invariant-loop-slot l = (l.slot ≤ l.slots) × (all_below l.slot (λ s. leb l.choosers (get_or l.fills s 0)) ≡ true)
+invariant-loop-slot l = (l.slot ≤ l.slots) × (all_below l.slot (λ s. leb l.choosers (get_or l.slot_max s 0)) ≡ true)
 
 abbrev pub decreases-loop-slot : goal.decreases-loop-slot
 decreases-loop-slot l = l.slots - l.slot

@@ -16,7 +16,7 @@ fits-requires t c =
 
 pub returns-then-fits : goal.returns-then-fits
 returns-then-fits t c =
-    open_here _ _ _ _ _ _ _ c.if-left-eq0.false (place-told _ _ (pos_of_ne-zero c.if-left-eq0.false) c.place_at-place.ensures) c.fits2.ensures c.if-fits.true
+    open_here _ _ _ _ _ _ _ c.if-left-eq0.false (place-told _ _ (pos_of_ne-zero c.if-left-eq0.false) c.place_at-place.ensures) c.fits.ensures c.if-fits.true
 
 pub overflow_sub-left : goal.overflow_sub-left
 overflow_sub-left t c =
@@ -29,4 +29,4 @@ first_open-requires t c =
 
 pub returns : goal.returns
 returns t c =
-    c.first_open.ensures ∙ open_after _ _ _ _ _ _ _ c.if-left-eq0.false (place-told _ _ (pos_of_ne-zero c.if-left-eq0.false) c.place_at-place.ensures) c.fits2.ensures c.if-fits.false
+    c.first_open.ensures ∙ open_after _ _ _ _ _ _ _ c.if-left-eq0.false (place-told _ _ (pos_of_ne-zero c.if-left-eq0.false) c.place_at-place.ensures) c.fits.ensures c.if-fits.false

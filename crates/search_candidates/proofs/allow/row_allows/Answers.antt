@@ -1,7 +1,8 @@
 -- Each kind's arm is its sentence, one arm for kinds 3 to 5; past them all, no place is allowed.
 use mathlib.Core.Path.{sym, ◌∙◌, ap}
+use native.Mathlib.Omega.{arith}
 use lib.Dec.{eqb}
-use Rattle.search_candidates.proofs.CaseLaws.{none_of, allows_in_slot, allows-not_in_slot, allows-between, allows_limited_size, allows-none-below, allows-none-above}
+use Rattle.search_candidates.proofs.CaseLaws.{allows_in_slot, allows-not_in_slot, allows-between, allows_limited_size, allows-none-below, allows-none-above}
 use Rattle.search_candidates.proofs.allow.row_allows.Goals as goal
 
 pub returns-in-1 : goal.returns-in-1
@@ -18,15 +19,15 @@ returns-in-6 c =
 
 pub returns-in-3 : goal.returns-in-3
 returns-in-3 c =
-    let r = c.in_default-1.rest in
     let e = c.kind_of.ensures in
-    c.pair_allows.ensures ∙ sym (allows-between _ _ _ _ _ (rw (sym e) c.if-this-lt1.false) (rw (sym e) c.if-this-lt6.true) (none_of e r.0.0.1) (none_of e r.0.1))
+    c.pair_allows.ensures ∙ sym (allows-between _ _ _ _ _ (omega arith) (omega arith) (λ k. omega arith) (λ k. omega arith))
 
 pub returns-in_default : goal.returns-in_default
 returns-in_default c =
-    sym (allows-none-below _ _ _ _ _ (rw (sym c.kind_of.ensures) c.if-this-lt1.true))
+    let e = c.kind_of.ensures in
+    sym (allows-none-below _ _ _ _ _ (omega arith))
 
 pub returns-in_default-2 : goal.returns-in_default-2
 returns-in_default-2 c =
     let e = c.kind_of.ensures in
-    sym (allows-none-above _ _ _ _ _ (rw (sym e) c.if-this-lt6.false) (none_of e c.in_default-1.rest.1))
+    sym (allows-none-above _ _ _ _ _ (omega arith) (λ k. omega arith))
