@@ -1,12 +1,11 @@
 -- The search's test of a critical set, a law for each way through it.
-use mathlib.Core.Path.{◌≡◌, refl, sym, ◌∙◌, ap, ap₂}
+use mathlib.Core.Path.{◌≡◌, refl, sym, ◌∙◌, ap}
 use mathlib.Core.Bool.{Bool, true, false, ◌&&◌}
 use mathlib.Core.List.{List}
 use Prim.Native.Nat.{ℕ, ◌+◌, ◌-◌, ◌≤◌, ◌<◌, ◌^◌}
 use native.Mathlib.Omega.{arith}
 use borrow.Author.Tests.{le-ltb}
 use lib.Bits.{bit_and}
-use lib.Count.{ones}
 use lib.Dec.{ltb}
 use lib.ListN.{length, get_or, drop}
 use Rattle.base_lists.specs.Below.{one, count_below}

@@ -1,18 +1,18 @@
 -- A number below 2^n is the set of the choices that it has; what is done to the numbers is done to the sets.
 use mathlib.Core.Path.{◌≡◌, refl, sym, ◌∙◌, ap, ap₂}
 use mathlib.Core.Bool.{Bool, true, false, ◌&&◌, ◌||◌, not, cond, false≢true}
-use mathlib.Core.Logic.{◌⊎◌, ⊎_elim}
+use mathlib.Core.Logic.{⊎_elim}
 use Prim.Native.Nat.{ℕ, zero, suc, ◌+◌, ◌-◌, ◌*◌, ◌/◌, ◌%◌, ◌^◌, ◌≤◌, ◌<◌}
-use native.Mathlib.Nat.{add_comm, mod-eq_of_lt, mod-lt, eq-or-lt_of_le, le_of_suc-le-suc, not-suc-le-zero, one-mul, zero-mul, pow-suc, mul_comm, two-mul, add-zero, zero-add, lt_of_lt_of_le, zero-div, div-eq_of_lt}
+use native.Mathlib.Nat.{add_comm, mod-lt, eq-or-lt_of_le, le_of_suc-le-suc, not-suc-le-zero, one-mul, zero-mul, pow-suc, mul_comm, two-mul, add-zero, zero-add, lt_of_lt_of_le, div-eq_of_lt}
 use native.Mathlib.Numerals.{add-one}
 use native.Mathlib.Omega.{arith}
 use borrow.Author.Tests.{ltb-true, ltb-false, eq-eqb, ne_eqb, eqb-true}
-use lib.Bits.{bit_and, bit_or, and_block, or_block, and_mask, and_comm}
+use lib.Bits.{bit_and, bit_or, and_block, or_block, and_mask}
 use lib.Count.{ones, ones_cat}
 use lib.Dec.{eqb, ltb}
-use lib.Pow.{field, mod-mod-pow, high, low, split, pow_pos, pow_mono, shr_lt, shl_exact, add-lt-pow}
+use lib.Pow.{field, mod-mod-pow, high, low, split, pow_pos, pow_mono, shr_lt, shl_exact}
 use Rattle.base_lists.specs.Below.{one, all_below, count_below}
-use Rattle.base_lists.proofs.Below.{all-each, each_all, one-fails, and_left, and_right, and_both}
+use Rattle.base_lists.proofs.Below.{all-each, each_all, and_both}
 use Rattle.base_lists.proofs.CountBelow.{count_le}
 use Rattle.base_lists.proofs.Sums.{all_ext}
 use Rattle.base_choice_sets.specs.Sets.{has, set_of, size_of, within, same_choices, with_choice, meets}

@@ -1,11 +1,11 @@
 -- Laws of lists that lie one after another in a flat list.
-use mathlib.Core.Path.{◌≡◌, refl, sym, ◌∙◌, ap, ap₂}
+use mathlib.Core.Path.{◌≡◌, refl, ◌∙◌, ap, ap₂}
 use mathlib.Core.List.{List, [], ◌∷◌, ◌++◌, flatten, flat_map, append_assoc}
-use Prim.Native.Nat.{ℕ, zero, suc, ◌+◌, ◌-◌, ◌≤◌, ◌<◌}
+use Prim.Native.Nat.{ℕ, ◌+◌, ◌-◌, ◌≤◌, ◌<◌}
 use native.Mathlib.Numerals.{add-one}
 use native.Mathlib.Omega.{arith}
 use lib.ListN.{length, get_or, take, drop, length-append, drop_of_length-le}
-use lib.Seq.{sets, drop-cons, drop-append_seam, take-append_seam, take_at, drop_at}
+use lib.Seq.{sets, drop-cons, take-append_seam, drop_at}
 use Rattle.base_lists.proofs.Stores.{Stores, stores-start, stores-part, stores-end}
 use Rattle.base_lists.specs.steps.Cut.{cut_at, EndsFit}
 use Rattle.base_lists.specs.Group.{ends_from}

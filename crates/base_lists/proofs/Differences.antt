@@ -1,11 +1,11 @@
 -- Differences of numbers as signed numbers: equal exactly if the crosswise sums are.
 use mathlib.Core.Path.{◌≡◌, refl, sym, ◌∙◌, ap}
-use mathlib.Core.Bool.{Bool, true, false, cond}
+use mathlib.Core.Bool.{Bool, true, false}
 use Prim.Native.Nat.{ℕ, zero, suc, ◌+◌, ◌-◌, ◌≤◌, ◌<◌}
 use native.Mathlib.Omega.{arith}
 use borrow.Author.Tests.{lt-ltb, le-ltb, ltb-true, ltb-false}
 use lib.Dec.{ltb}
-use lib.IntN.{ℤ, pos, negsuc, sub_ℕ, ◌-ℤ◌, pos-ne-negsuc}
+use lib.IntN.{pos, negsuc, sub_ℕ, ◌-ℤ◌, pos-ne-negsuc}
 
 -- the difference of two numbers
 pub minus_is : (a b : ℕ) → pos a -ℤ pos b ≡ sub_ℕ a b

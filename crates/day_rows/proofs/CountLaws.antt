@@ -1,7 +1,7 @@
 -- Counts that are in range: each is within its limit.
 use mathlib.Core.Path.{◌≡◌}
-use mathlib.Core.Bool.{Bool, true, ◌&&◌}
-use Prim.Native.Nat.{ℕ, ◌≤◌}
+use mathlib.Core.Bool.{true, ◌&&◌}
+use Prim.Native.Nat.{◌≤◌}
 use borrow.Author.Tests.{leb-true}
 use lib.Dec.{leb}
 use Rattle.base_lists.proofs.Below.{and_left, and_right}

@@ -1,5 +1,5 @@
 -- What a good row check says of each row, in plain words: for callers that lean on a judged list.
-use mathlib.Core.Path.{◌≡◌, refl, sym, ◌∙◌, ap}
+use mathlib.Core.Path.{◌≡◌, refl, sym, ◌∙◌}
 use mathlib.Core.Bool.{Bool, true, false, cond, ◌&&◌, false≢true}
 use mathlib.Core.List.{List, [], ◌∷◌}
 use Prim.Native.Nat.{ℕ, ◌≤◌, ◌<◌}
@@ -8,7 +8,7 @@ use borrow.Author.Tests.{ltb-true, ltb-false}
 use lib.Dec.{ltb}
 use lib.ListN.{length, get_or}
 use Rattle.base_lists.specs.First.{first_failing}
-use Rattle.base_lists.proofs.First.{first-before, first_le, first-at}
+use Rattle.base_lists.proofs.First.{first-before, first-at}
 use Rattle.day_rows.specs.Kinds.{columns_of}
 use Rattle.day_rows.specs.Row.{row_of}
 use Rattle.day_rows.specs.Told.{refused, good}

@@ -6,7 +6,7 @@ use native.Mathlib.Decide.{dec_lt}
 use native.Mathlib.Omega.{arith}
 use borrow.Author.Tests.{lt-leb}
 use lib.Dec.{leb}
-use lib.ListN.{length, get_or-eq_default}
+use lib.ListN.{get_or-eq_default}
 use Rattle.base_lists.specs.Below.{all_below}
 use Rattle.base_lists.proofs.Below.{all-each}
 use Rattle.day_rows.specs.Kinds.{kinds, columns_of, line}

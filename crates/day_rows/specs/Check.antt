@@ -1,11 +1,11 @@
 -- The row check: what the table asks of a row, the ranges of the counts, and the answer of the call.
-use Rattle.std.specs.Prelude.{Bool, true, false, ◌&&◌, not, cond, List, [], ◌∷◌, ℕ, ◌≤◌, eqb, ltb, leb, pos, neg_ℤ, length}
+use Rattle.std.specs.Prelude.{Bool, true, false, ◌&&◌, cond, List, [], ◌∷◌, ℕ, eqb, ltb, leb, pos, neg_ℤ, length}
 use Rattle.std.specs.Int.Signed.{le_z}
 use Rattle.base_lists.specs.First.{first_failing}
 use Rattle.day_rows.specs.Kinds.{columns_of}
 use Rattle.day_rows.specs.Op.{signed_of, extra_of, is_op}
 use Rattle.day_rows.specs.Row.{row_of}
-use Rattle.day_rows.specs.Told.{Told, refused, Verdict, good, refusal_tells, unless}
+use Rattle.day_rows.specs.Told.{refused, Verdict, good, refusal_tells, unless}
 use Rattle.day_rows.specs.declared.table.Part.{Part}
 use Rattle.day_rows.specs.declared.table.Part.TheVariants as part
 use Rattle.day_rows.specs.declared.table.Name.{Name}

@@ -1,5 +1,5 @@
 -- A row by its columns and by its number, and 01's order of rows.
-use Rattle.std.specs.Prelude.{Bool, true, false, ◌&&◌, ◌||◌, not, List, [], ◌∷◌, ℕ, ◌+◌, ◌*◌, ◌/◌, ◌%◌, ◌^◌, T, ℤ, pos}
+use Rattle.std.specs.Prelude.{Bool, false, ◌&&◌, ◌||◌, not, List, [], ◌∷◌, ℕ, ◌+◌, ◌*◌, ◌/◌, ◌%◌, ◌^◌, ℤ, pos}
 use Rattle.std.specs.Int.Signed.{lt_z}
 use Rattle.day_rows.specs.Op.{signed_of}
 use Rattle.day_rows.specs.declared.row.Row.{Row}

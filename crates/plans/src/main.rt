@@ -1,9 +1,11 @@
 // Lists a day's plans: plans [FIRST [ROOM [BUDGET]]], the day file on standard input.
 #![tactic(auto)]
 
-ghost use Rattle.std.specs.Prelude.{◌≡◌, length};
+ghost use Rattle.std.specs.Prelude.{◌≡◌, ◌≤◌, length};
 
-use libc::{STDERR_FILENO, STDIN_FILENO, STDOUT_FILENO};
+use std::env::{Env, FillError};
+use std::io;
+use std::io::{Input, Read};
 use text_day::made::Made;
 use text_lines::number::{Number, number_of};
 use text_plans::text::{LONGEST_TEXT, plans_text};
@@ -31,22 +33,29 @@ fn text_pool() -> [u8; LONGEST_TEXT]
     [0; LONGEST_TEXT]
 }
 
+// Room for an argument; of a longer one its front is read.
+fn argument_pool() -> [u8; 4096]
+    ensures { 4096 ≡ length result }
+{
+    [0; 4096]
+}
+
 // An argument's number, or the default where it isn't given.
-fn argument(at: usize, default: u64) -> Number {
-    if os::arg_count() <= at {
-        return Number::Value(default);
+fn argument(rt: &impl Env, at: usize, default: u64) -> Number {
+    let mut bytes = argument_pool();
+    let count = rt.arg(at, &mut bytes);
+    match count {
+        Ok(count) => number_of(&bytes[..count]),
+        Err(FillError::TooLong) => number_of(&bytes),
+        Err(FillError::NotPresent) => Number::Value(default),
     }
-    let mut bytes = io::buffer();
-    let count = os::arg(at, &mut bytes);
-    number_of(&bytes[..count])
 }
 
 // Writes one line on standard error that says what is expected.
-fn say_expected() {
-    io::write_all(
-        STDERR_FILENO,
-        b"plans: expected [FIRST [ROOM [BUDGET]]], each a number below 2^64, ROOM at most 1024\n",
-    );
+fn say_expected(rt: &impl Eprint) -> io::Result<()> {
+    rt.eprintln(
+        "plans: expected [FIRST [ROOM [BUDGET]]], each a number below 2^64, ROOM at most 1024",
+    )
 }
 
 // The text that the pool holds from its front on.
@@ -57,38 +66,63 @@ fn front(text: &[u8], size: usize) -> &[u8] {
     &text[..size]
 }
 
+// Reads until the list is full, or the input ends or can't be read, and answers how many bytes it put at the
+// list's front.
+fn read_full(input: &mut impl Read, bytes: &mut [u8]) -> usize
+    ensures { result ≤ length bytes.new }
+{
+    let mut done = 0;
+    while done < bytes.len() {
+        let got = input.read(&mut bytes[done..]);
+        let Ok(n) = got else {
+            break;
+        };
+        if n == 0 {
+            break;
+        }
+        done += n;
+    }
+    done
+}
+
 // Writes the text on standard output.
-fn write_text(text: &[u8], size: usize) {
-    io::write_all(STDOUT_FILENO, front(text, size));
+fn write_text(rt: &impl Print, text: &[u8], size: usize) -> io::Result<()> {
+    rt.write_all(front(text, size))
 }
 
 // Writes the text for the file on standard input.
-fn list(first: u64, room: u64, budget: u64) {
+fn list(rt: &(impl Input + Print + Eprint), first: u64, room: u64, budget: u64) -> io::Result<()> {
     let mut file = file_pool();
-    let size = io::read_full(STDIN_FILENO, &mut file);
+    let size = read_full(&mut rt.reader(), &mut file);
     let mut text = text_pool();
     let told = plans_text(&file[..size], first, room, budget, &mut text);
     match told {
-        Made::Text(size) => write_text(&text, size),
-        Made::Refused(_) => say_expected(),
+        Made::Text(size) => write_text(rt, &text, size),
+        Made::Refused(_) => say_expected(rt),
     }
 }
 
-fn main() {
-    if 4 < os::arg_count() {
-        say_expected();
-        return;
+// Whether the program has an argument of this number, its own name being 0.
+fn is_given(rt: &impl Env, at: usize) -> bool {
+    match rt.arg(at, &mut []) {
+        Err(FillError::NotPresent) => false,
+        _ => true,
     }
-    let first = argument(1, FIRST);
-    let room = argument(2, ROOM);
-    let budget = argument(3, BUDGET);
+}
+
+fn main(rt: HostRuntime) -> io::Result<()> {
+    if is_given(&rt, 4) {
+        return say_expected(&rt);
+    }
+    let first = argument(&rt, 1, FIRST);
+    let room = argument(&rt, 2, ROOM);
+    let budget = argument(&rt, 3, BUDGET);
     if let Number::Value(first) = first {
         if let Number::Value(room) = room {
             if let Number::Value(budget) = budget {
-                list(first, room, budget);
-                return;
+                return list(&rt, first, room, budget);
             }
         }
     }
-    say_expected();
+    say_expected(&rt)
 }

@@ -2,23 +2,21 @@
 -- at the end.
 use mathlib.Core.Path.{◌≡◌, refl, sym, ◌∙◌, ap, subst}
 use mathlib.Core.Bool.{true}
-use mathlib.Core.List.{List, [], ◌∷◌, ◌++◌, flatten, map, append-nil, append_assoc}
-use Prim.Native.Nat.{ℕ, ◌+◌, ◌-◌, ◌*◌, ◌^◌, ◌≤◌, ◌<◌, min}
+use mathlib.Core.List.{List, [], ◌++◌, flatten, append-nil, append_assoc}
+use Prim.Native.Nat.{ℕ, ◌+◌, ◌-◌, ◌^◌, ◌≤◌, ◌<◌, min}
 use native.Mathlib.Nat.{add-zero}
 use native.Mathlib.Omega.{arith}
 use borrow.Rule.Slice.PartMut.{put_mid, mid_of, Post-is}
 use lib.Dec.{ltb}
 use lib.ListN.{length, take, drop, replicate, length-append, length-map, length-drop, length-replicate}
 use lib.Seq.{sets, length-sets, take_all, take_at, drop-length}
-use Rattle.base_lists.specs.Below.{count_below}
 use Rattle.base_lists.specs.steps.Cut.{cut_at, EndsFit}
-use Rattle.base_lists.specs.Group.{classes, heads, ends_from}
+use Rattle.base_lists.specs.Group.{classes, ends_from}
 use Rattle.base_lists.specs.Pool.{pad}
 use Rattle.base_lists.proofs.Stores.{sets-append, sets-part, take-sets}
 use Rattle.base_lists.proofs.Cut.{cut-ends, ends-fit}
 use Rattle.base_lists.proofs.CountBelow.{count_le}
 use Rattle.base_lists.proofs.Group.{flat_le, heads_le, length-ends}
-use Rattle.base_lists.proofs.Pad.{length-pad}
 use Rattle.day_rows.specs.Told.{done, outcome}
 use Rattle.reduce_union_find.specs.State.{join_all, root_of}
 use Rattle.reduce_union_find.specs.Groups.{groups_written, GroupsOutcome}

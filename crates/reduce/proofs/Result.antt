@@ -1,9 +1,9 @@
 -- Laws of the result: it rises strictly, its rows are the turned rows and the added ones, and no two outcomes
 -- fit.
-use mathlib.Core.Path.{◌≡◌, refl, sym, ◌∙◌, ap}
+use mathlib.Core.Path.{◌≡◌, refl, ap}
 use mathlib.Core.List.Memᴰ
-use mathlib.Core.List.{List, [], ◌∷◌, ◌++◌, Memᴰ}
-use mathlib.Core.Logic.{◌⊎◌, inl, inr, ⊎_elim}
+use mathlib.Core.List.{List, Memᴰ}
+use mathlib.Core.Logic.{⊎_elim}
 use Prim.Native.Nat.{ℕ}
 use Rattle.base_lists.specs.Sorted.{Rises}
 use Rattle.base_lists.proofs.Sorted.{unique_rises, unique_member, unique_has}

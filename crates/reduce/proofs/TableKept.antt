@@ -1,28 +1,27 @@
 -- Every row of a reduction keeps the table as the search or the roster takes it, so that no caller judges it
 -- again.
-use mathlib.Core.Path.{◌≡◌, refl, sym, ◌∙◌, ap, subst}
-use mathlib.Core.Bool.{Bool, true, false, cond, ◌&&◌, ◌||◌, false≢true}
+use mathlib.Core.Path.{◌≡◌, refl, sym, ◌∙◌, subst}
+use mathlib.Core.Bool.{Bool, true, false, cond, ◌&&◌, ◌||◌}
 use mathlib.Core.List.Memᴰ
-use mathlib.Core.List.{List, [], ◌∷◌, ◌++◌, map, flat_map, Memᴰ}
+use mathlib.Core.List.{List, [], ◌∷◌, map, flat_map, Memᴰ}
 use mathlib.Core.Logic.{◌⊎◌, inl, inr, ⊎_elim}
 use Prim.Native.Nat.{ℕ, zero, suc, ◌^◌, ◌≤◌, ◌<◌}
 use native.Mathlib.Decide.{dec_lt}
 use native.Mathlib.Omega.{arith}
-use borrow.Author.Tests.{lt-ltb, le-leb, ltb-true, leb-true, eqb-true, eqb-false, eq-eqb}
-use lib.Dec.{eqb, ltb, leb}
+use borrow.Author.Tests.{lt-ltb, le-leb, ltb-true, leb-true, eqb-true, eqb-false}
+use lib.Dec.{eqb, leb}
 use Rattle.base_lists.specs.Group.{class_of}
 use Rattle.base_lists.specs.Keep.{any_of}
 use Rattle.base_lists.proofs.Below.{and_left, and_right}
 use Rattle.base_lists.proofs.Members.{member-each, member-part, member_if, member-unless}
 use Rattle.base_lists.proofs.Partition.{kept as kept-below, class_is}
 use Rattle.day_rows.specs.Told.{good}
-use Rattle.day_rows.specs.Check.{column_holds, takes_part, row_keeps, rows_judged, counts_in_range}
+use Rattle.day_rows.specs.Check.{column_holds, row_keeps, rows_judged, counts_in_range}
 use Rattle.day_rows.specs.Kinds.{columns_of, kinds}
 use Rattle.day_rows.specs.Row.{row_of, row_number, plain_row}
 use Rattle.day_rows.specs.declared.check.Counts.{Counts}
 use Rattle.day_rows.specs.declared.check.Takes.{Takes}
 use Rattle.day_rows.specs.declared.check.Takes.TheVariants as takes
-use Rattle.day_rows.specs.declared.row.Row.{Row}
 use Rattle.day_rows.proofs.CountLaws.{within}
 use Rattle.day_rows.proofs.KeptLaws.{Kept, kept, keeps, good-each}
 use Rattle.day_rows.proofs.KindLaws.{takes_given, takes_scheduling, takes_assignment}

@@ -1,5 +1,5 @@
 -- Module 2, the whole reduction, and the answer of the call.
-use Rattle.std.specs.Prelude.{Bool, cond, ◌&&◌, List, ◌++◌, ℕ, eqb, leb, length, replicate}
+use Rattle.std.specs.Prelude.{cond, ◌&&◌, List, ◌++◌, ℕ, eqb, leb, length, replicate}
 use Rattle.base_lists.specs.Keep.{keep}
 use Rattle.base_lists.specs.Pool.{pad}
 use Rattle.base_lists.specs.Sorted.{unique_sorted}

@@ -1,19 +1,18 @@
 -- The same-choosers groups, a law for each way through their functions.
 use mathlib.Core.Path.{◌≡◌, refl, sym, ◌∙◌, ap}
-use mathlib.Core.Bool.{Bool, true, false, cond}
+use mathlib.Core.Bool.{Bool, cond}
 use mathlib.Core.List.{List, [], ◌∷◌, ◌++◌, flat_map}
 use Prim.Native.Nat.{ℕ, ◌+◌, ◌≤◌, ◌<◌, min}
 use native.Mathlib.Numerals.{add-one}
 use native.Mathlib.Omega.{arith}
 use borrow.Author.Tests.{eq-eqb, ne_eqb}
-use lib.Dec.{eqb}
 use lib.ListN.{length, get_or, set, take, drop, drop_of_length-le}
 use lib.Seq.{drop-cons, take-suc, take-suc-set, take_all}
 use Rattle.day_rows.specs.Row.{row_of}
 use Rattle.day_rows.specs.declared.row.Row.{Row}
 use Rattle.reduce_union_find.specs.declared.UnionFind.{UnionFind}
-use Rattle.reduce_union_find.specs.State.{join_of, join_from, join_all, fresh, root_of, JoinedTells}
-use Rattle.day_rows.specs.Told.{Told, done, refusal_tells, outcome}
+use Rattle.reduce_union_find.specs.State.{join_of, join_from, join_all, fresh, JoinedTells}
+use Rattle.day_rows.specs.Told.{done, refusal_tells, outcome}
 use Rattle.day_rows.specs.declared.refusal.Refusal.{Refusal}
 use Rattle.reduce_union_find.specs.declared.Grouped.{Grouped}
 use Rattle.reduce_union_find.specs.declared.Grouped.TheVariants as grouped

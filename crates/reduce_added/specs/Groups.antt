@@ -1,5 +1,5 @@
 -- Module 2, the same-choosers groups.
-use Rattle.std.specs.Prelude.{Bool, cond, ℕ, eqb}
+use Rattle.std.specs.Prelude.{cond, ℕ, eqb}
 use mathlib.Core.List.{List, [], ◌∷◌, flat_map}
 use Rattle.base_lists.specs.Group.{classes}
 use Rattle.reduce_union_find.specs.State.{join_all, root_of}

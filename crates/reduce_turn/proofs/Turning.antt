@@ -1,16 +1,16 @@
 -- The turn stage, a law for each way through its functions.
 use mathlib.Core.Path.{◌≡◌, refl, sym, ◌∙◌, ap}
-use mathlib.Core.Bool.{Bool, true, false, cond, ◌&&◌, not}
+use mathlib.Core.Bool.{Bool, true, false, cond, not}
 use mathlib.Core.List.{List, [], ◌∷◌, flat_map}
 use Prim.Native.Nat.{ℕ, ◌+◌, ◌≤◌, ◌<◌, min}
 use native.Mathlib.Omega.{arith}
-use borrow.Author.Tests.{eq-eqb, ne_eqb, leb-true, leb-false}
+use borrow.Author.Tests.{ne_eqb, leb-true, leb-false}
 use lib.Dec.{eqb, leb}
 use lib.ListN.{length, take, length-append, length-take}
 use lib.Seq.{take_all}
-use Rattle.day_rows.specs.Row.{row_of, row_number, plain_row}
+use Rattle.day_rows.specs.Row.{row_of}
 use Rattle.day_rows.specs.declared.row.Row.{Row}
-use Rattle.reduce_turn.specs.Turn.{kind_of, left_of, right_of, exchanged, turned_row, turned_one, turned_rows, clashes_at}
+use Rattle.reduce_turn.specs.Turn.{kind_of, exchanged, turned_row, turned_one, turned_rows, clashes_at}
 use Rattle.reduce_turn.specs.steps.Free.{Countable}
 
 -- a row's columns are those of its number

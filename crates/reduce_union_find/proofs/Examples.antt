@@ -1,8 +1,6 @@
 -- Small runs, computed from the definitions.
 use mathlib.Core.Path.{◌≡◌, refl}
-use mathlib.Core.Bool.{true, false}
-use mathlib.Core.List.{List, [], ◌∷◌}
-use Prim.Native.Nat.{ℕ}
+use mathlib.Core.List.{[], ◌∷◌}
 use lib.ListN.{replicate}
 use Rattle.base_lists.specs.Below.{all_below}
 use Rattle.base_lists.specs.Group.{keep_below, class_of, heads, classes}

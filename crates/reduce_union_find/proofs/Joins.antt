@@ -83,15 +83,15 @@ from-keeps : (c : ℕ) (uf : UnionFind) → Made c uf → (pairs : List (ℕ × 
 unfolding join_from
 from-keeps c uf m [] i j k h e = e
 from-keeps c uf m (p ∷ pairs) i j k h e =
-    from-keeps c _ (made_join c uf m p.0 p.1) pairs i j k h (join_keeps c uf m p.0 p.1 i j k h e)
+    from-keeps c (join_of c uf p.0 p.1).state (made_join c uf m p.0 p.1) pairs i j k h (join_keeps c uf m p.0 p.1 i j k h e)
 
 -- the elements of every joined pair have one root at the end
 from-joins : (c : ℕ) (uf : UnionFind) → Made c uf → (pairs : List (ℕ × ℕ)) (a b : ℕ) → a < c → b < c → Memᴰ (a, b) pairs → root_of (join_from c uf pairs) a ≡ root_of (join_from c uf pairs) b
 unfolding join_from
 from-joins c uf m [] a b k h q = absurd (Memᴰ.not-nil q)
 from-joins c uf m (p ∷ pairs) a b k h q = ⊎_elim
-    (λ e. from-keeps c _ (made_join c uf m p.0 p.1) pairs a b k h (subst (λ (z : ℕ × ℕ). root_of (join_of c uf z.0 z.1).state a ≡ root_of (join_of c uf z.0 z.1).state b) e (made_one c uf m a b k h)))
-    (λ t. from-joins c _ (made_join c uf m p.0 p.1) pairs a b k h t)
+    (λ e. from-keeps c (join_of c uf p.0 p.1).state (made_join c uf m p.0 p.1) pairs a b k h (subst (λ (z : ℕ × ℕ). root_of (join_of c uf z.0 z.1).state a ≡ root_of (join_of c uf z.0 z.1).state b) e (made_one c uf m a b k h)))
+    (λ t. from-joins c (join_of c uf p.0 p.1).state (made_join c uf m p.0 p.1) pairs a b k h t)
     (Memᴰ.cases_cons q)
 
 -- linked elements have one root after the joins
@@ -131,7 +131,7 @@ module _ (c : ℕ) (all : List (ℕ × ℕ)) where
   unfolding join_from
   from_on uf m w [] sub = w
   from_on uf m w (p ∷ pairs) sub =
-      from_on _ (made_join c uf m p.0 p.1) (join_on uf m w p.0 p.1 (sub p (Memᴰ.head refl))) pairs
+      from_on (join_of c uf p.0 p.1).state (made_join c uf m p.0 p.1) (join_on uf m w p.0 p.1 (sub p (Memᴰ.head refl))) pairs
       (λ z q. sub z (Memᴰ.tail q))
 
   fresh_on : c ≤ 64 → Links fresh

@@ -182,7 +182,7 @@ made_join c uf m left right = go (ltb left c) (ltb right c) refl refl
 pub made-from : (c : ℕ) (uf : UnionFind) → Made c uf → (pairs : List (ℕ × ℕ)) → Made c (join_from c uf pairs)
 unfolding join_from
 made-from c uf m [] = m
-made-from c uf m (pair ∷ pairs) = made-from c _ (made_join c uf m pair.0 pair.1) pairs
+made-from c uf m (pair ∷ pairs) = made-from c (join_of c uf pair.0 pair.1).state (made_join c uf m pair.0 pair.1) pairs
 
 pub made_all : (c : ℕ) → c ≤ 64 → (pairs : List (ℕ × ℕ)) → Made c (join_all c pairs)
 unfolding join_all

@@ -5,6 +5,8 @@ use day_rows::refusal::Refusal;
 use sets_analysis::analysis::{Analysis, Analyzed, analyze};
 use sets_analysis::day::SetsCounts;
 use sets_levels::level_list::{Listed, level_list};
+use std::fs::{File, Files};
+use std::io;
 use test_cases::replay::Replay;
 use test_cases::{Tally, byte, number, plus, word};
 
@@ -214,16 +216,16 @@ fn agrees(bytes: &[u8]) -> bool {
 }
 
 // Judges every record of the file of cases.
-fn replay(record: &mut [u8]) -> Tally {
-    let mut run = Replay::of(b"cases", record);
+fn replay(rt: &impl Files<File = File>, record: &mut [u8]) -> Tally {
+    let mut run = Replay::of(rt, b"cases", record);
     while 0 < run.left {
         run = run.next(agrees(record), record);
     }
     run.tally
 }
 
-fn main() {
+fn main(rt: HostRuntime) -> io::Result<()> {
     let mut record = [0u8; 32768];
-    let tally = replay(&mut record);
-    tally.tell(b"critical_sets");
+    let tally = replay(&rt, &mut record);
+    tally.tell(&rt, b"critical_sets")
 }

@@ -7,6 +7,8 @@ use expected::{Expected, budgets_agree, page_agrees, times};
 use list_all::list_plans::{Listed, list_plans};
 use list_page::page::list_page;
 use list_starts::page_end::Paged;
+use std::fs::{File, Files};
+use std::io;
 use test_cases::replay::Replay;
 use test_cases::{
     BLANK, Tally, byte, fill, first_bytes, first_rows, first_words, is_filled, number, read_bytes,
@@ -268,17 +270,17 @@ fn agrees(bytes: &[u8], buffer: &mut [u8]) -> bool {
 }
 
 // Judges every record of the file of cases.
-fn replay(record: &mut [u8], buffer: &mut [u8]) -> Tally {
-    let mut run = Replay::of(b"cases", record);
+fn replay(rt: &impl Files<File = File>, record: &mut [u8], buffer: &mut [u8]) -> Tally {
+    let mut run = Replay::of(rt, b"cases", record);
     while 0 < run.left {
         run = run.next(agrees(record, buffer), record);
     }
     run.tally
 }
 
-fn main() {
+fn main(rt: HostRuntime) -> io::Result<()> {
     let mut record = [0u8; 12800];
     let mut buffer = [0u8; 12800];
-    let tally = replay(&mut record, &mut buffer);
-    tally.tell(b"listing");
+    let tally = replay(&rt, &mut record, &mut buffer);
+    tally.tell(&rt, b"listing")
 }

@@ -6,6 +6,8 @@ use day_rows::number::Choice;
 use day_rows::refusal::Refusal;
 use search_map::lookup::{MapCounts, lookup};
 use search_map::own_map::{Mapped, own_map};
+use std::fs::{File, Files};
+use std::io;
 use test_cases::parts::{after, rows, words, words_agree, words_are};
 use test_cases::replay::Replay;
 use test_cases::{Tally, byte, first_rows, first_words, number, plus, word};
@@ -293,16 +295,16 @@ fn agrees(bytes: &[u8]) -> bool {
 }
 
 // Judges every record of the file of cases.
-fn replay(record: &mut [u8]) -> Tally {
-    let mut run = Replay::of(b"cases", record);
+fn replay(rt: &impl Files<File = File>, record: &mut [u8]) -> Tally {
+    let mut run = Replay::of(rt, b"cases", record);
     while 0 < run.left {
         run = run.next(agrees(record), record);
     }
     run.tally
 }
 
-fn main() {
+fn main(rt: HostRuntime) -> io::Result<()> {
     let mut record = [0u8; 32768];
-    let tally = replay(&mut record);
-    tally.tell(b"maps");
+    let tally = replay(&rt, &mut record);
+    tally.tell(&rt, b"maps")
 }

@@ -2,8 +2,8 @@
 ghost use Rattle.std.specs.Prelude.{◌≡◌, length};
 
 use day_rows::check::Counts;
-use libc::STDOUT_FILENO;
 use list_all::list_plans::{Listed, list_plans};
+use std::io;
 use test_cases::{BLANK, fill, is_filled, same};
 
 // How many plans the day has, as the telling in Python counts them; the whole has room for them alone.
@@ -147,38 +147,34 @@ fn join_pages(
 }
 
 // Prints one line for the pages of a size.
-fn tell_pages(room: u64, joined: Joined) {
-    io::write_all(STDOUT_FILENO, b"pages of ");
-    io::print_decimal(STDOUT_FILENO, room);
-    io::write_all(STDOUT_FILENO, b": ");
+fn tell_pages(rt: &impl Print, room: u64, joined: Joined) -> io::Result<()> {
+    print!(rt; "pages of {room}: ")?;
     match joined {
-        Joined::Equal(count) => tell_equal(count),
-        Joined::Differ => tell_differ(),
+        Joined::Equal(count) => tell_equal(rt, count),
+        Joined::Differ => tell_differ(rt),
     }
 }
 
 // Prints how many pages equal their parts of the whole.
-fn tell_equal(count: u64) {
-    io::print_decimal(STDOUT_FILENO, count);
-    io::write_all(STDOUT_FILENO, b", joined equal the whole\n");
+fn tell_equal(rt: &impl Print, count: u64) -> io::Result<()> {
+    println!(rt; "{count}, joined equal the whole")
 }
 
 // Prints that something differs.
-pub fn tell_differ() {
-    io::write_all(STDOUT_FILENO, b"differ\n");
+pub fn tell_differ(rt: &impl Print) -> io::Result<()> {
+    rt.println("differ")
 }
 
 // Prints one line for the whole.
-fn tell_whole(whole: Whole) {
-    io::write_all(STDOUT_FILENO, b"plans ");
-    io::print_decimal(STDOUT_FILENO, whole.total);
-    io::write_all(STDOUT_FILENO, b", nodes ");
-    io::print_decimal(STDOUT_FILENO, whole.nodes);
-    io::write_all(STDOUT_FILENO, b"\n");
+fn tell_whole(rt: &impl Print, whole: Whole) -> io::Result<()> {
+    let total = whole.total;
+    let nodes = whole.nodes;
+    println!(rt; "plans {total}, nodes {nodes}")
 }
 
 // Holds the pages of two sizes against the whole.
 fn compare_pages(
+    rt: &impl Print,
     counts: Counts,
     mins: &[u16],
     maxs: &[u16],
@@ -186,22 +182,29 @@ fn compare_pages(
     rows: &[u64],
     whole: Whole,
     plans: &[u8],
-) {
-    tell_whole(whole);
+) -> io::Result<()> {
+    tell_whole(rt, whole)?;
     let mut page = page_of_1000();
     let joined = join_pages(
         counts, mins, maxs, optional, rows, whole, 1000, plans, &mut page,
     );
-    tell_pages(1000, joined);
+    tell_pages(rt, 1000, joined)?;
     let mut page = page_of_997();
     let joined = join_pages(
         counts, mins, maxs, optional, rows, whole, 997, plans, &mut page,
     );
-    tell_pages(997, joined);
+    tell_pages(rt, 997, joined)
 }
 
 // Lists the whole in one call, and holds the pages against it where it wrote all that there are.
-pub fn list_day(counts: Counts, mins: &[u16], maxs: &[u16], optional: &[u8], rows: &[u64]) {
+pub fn list_day(
+    rt: &impl Print,
+    counts: Counts,
+    mins: &[u16],
+    maxs: &[u16],
+    optional: &[u8],
+    rows: &[u64],
+) -> io::Result<()> {
     let mut plans = whole_pool();
     let listed = list_plans(
         counts, mins, maxs, optional, rows, 0, PLANS, BUDGET, &mut plans,
@@ -212,13 +215,11 @@ pub fn list_day(counts: Counts, mins: &[u16], maxs: &[u16], optional: &[u8], row
         nodes,
     } = listed
     else {
-        tell_differ();
-        return;
+        return tell_differ(rt);
     };
     if written != PLANS {
-        tell_differ();
-        return;
+        return tell_differ(rt);
     }
     let whole = Whole { total, nodes };
-    compare_pages(counts, mins, maxs, optional, rows, whole, &plans);
+    compare_pages(rt, counts, mins, maxs, optional, rows, whole, &plans)
 }

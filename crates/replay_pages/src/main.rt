@@ -8,7 +8,8 @@ use day_file::read::{Read, read_day};
 use day_rows::check::Counts;
 use listed::{list_day, tell_differ};
 use reduce::{Reduced, reduce};
-use test_cases::{first_bytes, first_rows, first_words};
+use std::io;
+use test_cases::{first_bytes, first_rows, first_words, open_read, read_full};
 
 mod listed;
 
@@ -70,16 +71,21 @@ fn listing_rows(rows: &[u64]) -> usize {
 }
 
 // Reduces a day, and lists it by the listing's part of its reduced rows.
-fn reduce_day(counts: Counts, mins: &[u16], maxs: &[u16], optional: &[u8], rows: &[u64]) {
+fn reduce_day(
+    rt: &impl Print,
+    counts: Counts,
+    mins: &[u16],
+    maxs: &[u16],
+    optional: &[u8],
+    rows: &[u64],
+) -> io::Result<()> {
     let mut pool = reduced_rows();
     let reduced = reduce(counts, rows, &mut pool);
     let Reduced::Rows(reduction) = reduced else {
-        tell_differ();
-        return;
+        return tell_differ(rt);
     };
     if reduction.clash {
-        tell_differ();
-        return;
+        return tell_differ(rt);
     }
     let searched = listing_rows(first_rows(&pool, reduction.count));
     let with_rows = Counts {
@@ -88,11 +94,18 @@ fn reduce_day(counts: Counts, mins: &[u16], maxs: &[u16], optional: &[u8], rows:
         choosers: counts.choosers,
         rows: searched,
     };
-    list_day(with_rows, mins, maxs, optional, first_rows(&pool, searched));
+    list_day(
+        rt,
+        with_rows,
+        mins,
+        maxs,
+        optional,
+        first_rows(&pool, searched),
+    )
 }
 
 // Reads the day of a file, and reduces and lists it.
-fn read_file(file: &[u8]) {
+fn read_file(rt: &impl Print, file: &[u8]) -> io::Result<()> {
     let mut mins = words();
     let mut maxs = words();
     let mut optional = flags();
@@ -109,20 +122,23 @@ fn read_file(file: &[u8]) {
         &mut rows,
     );
     let Read::Day(counts) = read else {
-        tell_differ();
-        return;
+        return tell_differ(rt);
     };
     reduce_day(
+        rt,
         counts.for_rows(),
         first_words(&mins, counts.choices),
         first_words(&maxs, counts.choices),
         first_bytes(&optional, counts.choices),
         first_rows(&rows, counts.rows),
-    );
+    )
 }
 
-fn main() {
+fn main(rt: HostRuntime) -> io::Result<()> {
     let mut file = file_pool();
-    let size = io::read_full(os::open_read(b"skills-day.day"), &mut file);
-    read_file(first_bytes(&file, size));
+    let size = match open_read(&rt, b"skills-day.day") {
+        Some(mut opened) => read_full(&mut opened, &mut file),
+        None => 0,
+    };
+    read_file(&rt, first_bytes(&file, size))
 }

@@ -3,6 +3,8 @@
 
 ghost use Rattle.std.specs.Prelude.{◌≡◌, length};
 
+use std::fs::{File, Files};
+use std::io;
 use test_cases::replay::Replay;
 use test_cases::texts::{record_pool, text_agrees};
 use test_cases::{BLANK, Tally, fill, word};
@@ -36,17 +38,17 @@ fn agrees(bytes: &[u8], text: &mut [u8]) -> bool {
 }
 
 // Judges every record of the file of cases.
-fn replay(record: &mut [u8], text: &mut [u8]) -> Tally {
-    let mut run = Replay::of(b"cases", record);
+fn replay(rt: &impl Files<File = File>, record: &mut [u8], text: &mut [u8]) -> Tally {
+    let mut run = Replay::of(rt, b"cases", record);
     while 0 < run.left {
         run = run.next(agrees(record, text), record);
     }
     run.tally
 }
 
-fn main() {
+fn main(rt: HostRuntime) -> io::Result<()> {
     let mut record = record_pool();
     let mut text = plan_pool();
-    let tally = replay(&mut record, &mut text);
-    tally.tell(b"plan");
+    let tally = replay(&rt, &mut record, &mut text);
+    tally.tell(&rt, b"plan")
 }

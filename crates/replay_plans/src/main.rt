@@ -4,6 +4,8 @@
 ghost use Rattle.std.specs.Prelude.{◌≡◌, length};
 
 use day_rows::refusal::Refusal;
+use std::fs::{File, Files};
+use std::io;
 use test_cases::replay::Replay;
 use test_cases::texts::{length_at, record_pool, text_agrees};
 use test_cases::{BLANK, Tally, fill, is_filled, number, word};
@@ -62,17 +64,17 @@ fn agrees(bytes: &[u8], text: &mut [u8]) -> bool {
 }
 
 // Judges every record of the file of cases.
-fn replay(record: &mut [u8], text: &mut [u8]) -> Tally {
-    let mut run = Replay::of(b"cases", record);
+fn replay(rt: &impl Files<File = File>, record: &mut [u8], text: &mut [u8]) -> Tally {
+    let mut run = Replay::of(rt, b"cases", record);
     while 0 < run.left {
         run = run.next(agrees(record, text), record);
     }
     run.tally
 }
 
-fn main() {
+fn main(rt: HostRuntime) -> io::Result<()> {
     let mut record = record_pool();
     let mut text = text_pool();
-    let tally = replay(&mut record, &mut text);
-    tally.tell(b"plans");
+    let tally = replay(&rt, &mut record, &mut text);
+    tally.tell(&rt, b"plans")
 }

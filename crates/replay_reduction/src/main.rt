@@ -5,6 +5,8 @@
 use day_rows::check::Counts;
 use day_rows::refusal::Refusal;
 use reduce::{Reduced, Reduction};
+use std::fs::{File, Files};
+use std::io;
 use test_cases::parts::{rows_agree, rows_are};
 use test_cases::replay::Replay;
 use test_cases::{Tally, byte, plus, word};
@@ -62,16 +64,16 @@ fn agrees(bytes: &[u8]) -> bool {
 }
 
 // Judges every record of the file of cases.
-fn replay(record: &mut [u8]) -> Tally {
-    let mut run = Replay::of(b"cases", record);
+fn replay(rt: &impl Files<File = File>, record: &mut [u8]) -> Tally {
+    let mut run = Replay::of(rt, b"cases", record);
     while 0 < run.left {
         run = run.next(agrees(record), record);
     }
     run.tally
 }
 
-fn main() {
+fn main(rt: HostRuntime) -> io::Result<()> {
     let mut record = [0u8; 16384];
-    let tally = replay(&mut record);
-    tally.tell(b"reduction");
+    let tally = replay(&rt, &mut record);
+    tally.tell(&rt, b"reduction")
 }

@@ -3,6 +3,8 @@
 
 use day_rows::refusal::Refusal;
 use roster_check::roster_check::{RosterChecked, RosterCounts, check_roster};
+use std::fs::{File, Files};
+use std::io;
 use test_cases::parts::{after, few_bytes, words};
 use test_cases::replay::Replay;
 use test_cases::{Tally, byte, first_bytes, first_rows, first_words, plus, word};
@@ -213,8 +215,8 @@ fn agrees_told(bytes: &[u8]) -> bool {
 }
 
 // Judges every record of the file of cases.
-fn replay(record: &mut [u8]) -> Tally {
-    let mut run = Replay::of(b"cases", record);
+fn replay(rt: &impl Files<File = File>, record: &mut [u8]) -> Tally {
+    let mut run = Replay::of(rt, b"cases", record);
     while 0 < run.left {
         run = run.next(agrees_asked(record), record);
     }
@@ -222,18 +224,18 @@ fn replay(record: &mut [u8]) -> Tally {
 }
 
 // Judges every record of the file told from 01.
-fn replay_told(record: &mut [u8]) -> Tally {
-    let mut run = Replay::of(b"refusals", record);
+fn replay_told(rt: &impl Files<File = File>, record: &mut [u8]) -> Tally {
+    let mut run = Replay::of(rt, b"refusals", record);
     while 0 < run.left {
         run = run.next(agrees_told(record), record);
     }
     run.tally
 }
 
-fn main() {
+fn main(rt: HostRuntime) -> io::Result<()> {
     let mut record = [0u8; 65536];
-    let tally = replay(&mut record);
-    tally.tell(b"roster");
-    let told = replay_told(&mut record);
-    told.tell(b"refusals");
+    let tally = replay(&rt, &mut record);
+    tally.tell(&rt, b"roster")?;
+    let told = replay_told(&rt, &mut record);
+    told.tell(&rt, b"refusals")
 }

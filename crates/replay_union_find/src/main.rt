@@ -3,6 +3,8 @@
 #![tactic(auto)]
 
 use reduce_union_find::{Found, Grouped, UnionFind};
+use std::fs::{File, Files};
+use std::io;
 use test_cases::replay::Replay;
 use test_cases::{Tally, byte, plus, same, word};
 
@@ -153,16 +155,16 @@ fn agrees(bytes: &[u8]) -> bool {
 }
 
 // Judges every record of the file of cases.
-fn replay(record: &mut [u8]) -> Tally {
-    let mut run = Replay::of(b"cases", record);
+fn replay(rt: &impl Files<File = File>, record: &mut [u8]) -> Tally {
+    let mut run = Replay::of(rt, b"cases", record);
     while 0 < run.left {
         run = run.next(agrees(record), record);
     }
     run.tally
 }
 
-fn main() {
+fn main(rt: HostRuntime) -> io::Result<()> {
     let mut record = [0u8; 4096];
-    let tally = replay(&mut record);
-    tally.tell(b"union_find");
+    let tally = replay(&rt, &mut record);
+    tally.tell(&rt, b"union_find")
 }

@@ -2,7 +2,7 @@
 use mathlib.Core.Path.{◌≡◌, refl, sym, ◌∙◌, ap}
 use mathlib.Core.Bool.{Bool, true, false, ◌&&◌, ◌||◌, false≢true}
 use mathlib.Core.List.{List, []}
-use Prim.Native.Nat.{ℕ, ◌*◌, ◌≤◌, ◌<◌}
+use Prim.Native.Nat.{ℕ, ◌*◌, ◌≤◌}
 use native.Mathlib.Nat.{mul-le-mul_right}
 use native.Mathlib.Omega.{arith}
 use borrow.Author.Tests.{lt-ltb, leb-true, eqb-true, ltb-true}
@@ -13,25 +13,23 @@ use Rattle.base_lists.specs.Below.{all_below}
 use Rattle.base_lists.proofs.All.{all_of-each, each-all_of}
 use Rattle.base_lists.proofs.Below.{and_left, and_right}
 use Rattle.day_rows.specs.Check.{counts_in_range, most_rows}
-use Rattle.day_rows.specs.Told.{Told, done, refused, refuse, refusal_tells, unless, and_then}
+use Rattle.day_rows.specs.Told.{Told, done, refused, unless}
 use Rattle.day_rows.specs.declared.check.Takes.TheVariants.{Scheduling, Assignment}
-use Rattle.day_rows.specs.declared.refusal.Refusal.{Refusal}
 use Rattle.day_rows.proofs.CountLaws.{Within, within}
 use Rattle.plan_check.specs.Check.{cell_fits}
 use Rattle.plan_check.specs.Rows.{keeps_rows}
 use Rattle.plan_check.specs.steps.Kept.{keeps_every}
-use Rattle.plan_check.proofs.CheckLaws.{cell_omitted, cell_slot}
 use Rattle.plan_check.proofs.KeptLaws.{every-rows}
 use Rattle.day_rows.specs.Levels.{levels_rise, last_level}
 use Rattle.roster_rows.specs.Cells.{cells_of}
-use Rattle.roster_rows.specs.Rows.{keeps_assignment_rows, roster_keeps}
+use Rattle.roster_rows.specs.Rows.{roster_keeps}
 use Rattle.roster_rows.specs.steps.Shapes.{Seated}
 use Rattle.roster_rows.proofs.KindLaws.{rows_decide}
 use Rattle.roster_check.specs.Sheet.{Sheet, sheet_of, row_counts}
 use Rattle.roster_rows.specs.Seats.{slots_apart, names_scheduled, cells_judged}
 use Rattle.roster_check.specs.Roster.{seats_fit}
 use Rattle.roster_check.specs.Passes.{passes, highest}
-use Rattle.roster_check.specs.Check.{Scored, scored, roster_counts_in_range, roster_lengths_fit, lists_judged, rows_judged, roster_check_of}
+use Rattle.roster_check.specs.Check.{scored, roster_counts_in_range, roster_lengths_fit, lists_judged, rows_judged, roster_check_of}
 use Rattle.roster_check.specs.steps.Shapes.{Judged}
 use Rattle.roster_check.specs.declared.roster_check.RosterCounts.{RosterCounts}
 

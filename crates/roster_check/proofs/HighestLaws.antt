@@ -14,7 +14,7 @@ use Rattle.roster_rows.specs.Cells.{cells_of}
 use Rattle.roster_rows.specs.steps.Shapes.{Seated}
 use Rattle.roster_rows.proofs.CellLaws.{cells-many}
 use Rattle.base_lists.specs.All.{all_at_most}
-use Rattle.roster_check.specs.Roster.{highest_below, preference_met, highest_met}
+use Rattle.roster_check.specs.Roster.{highest_below, preference_met}
 
 pub highest-none : (f : ℕ → ℕ) → 0 ≡ highest_below 0 f
 unfolding highest_below

@@ -1,16 +1,16 @@
 -- The roster check's refusals, a law for each way through their functions.
-use mathlib.Core.Path.{◌≡◌, refl, sym, ◌∙◌, ap}
-use mathlib.Core.Bool.{Bool, true, false, ◌&&◌, cond}
+use mathlib.Core.Path.{◌≡◌, sym, ◌∙◌, ap}
+use mathlib.Core.Bool.{Bool, true, false}
 use mathlib.Core.List.{List, [], ◌∷◌}
 use Prim.Native.Nat.{ℕ, ◌+◌, ◌*◌, ◌-◌, ◌≤◌, ◌<◌}
 use native.Mathlib.Omega.{arith}
 use borrow.Author.Tests.{lt-ltb, le-ltb, le-leb, lt-leb, eq-eqb, ne_eqb}
-use lib.Dec.{eqb, ltb, leb}
+use lib.Dec.{eqb, leb}
 use lib.ListN.{length, get_or, drop}
 use Rattle.base_lists.specs.All.{all_at_most}
 use Rattle.base_lists.specs.First.{first_failing}
 use Rattle.base_lists.proofs.First.{first_passes, first-fails}
-use Rattle.day_rows.specs.Check.{counts_in_range, most_rows, row_keeps}
+use Rattle.day_rows.specs.Check.{counts_in_range, row_keeps}
 use Rattle.day_rows.specs.Told.{Told, done, refused, refuse}
 use Rattle.day_rows.specs.declared.check.Counts.{Counts}
 use Rattle.day_rows.specs.declared.check.Takes.{Takes}

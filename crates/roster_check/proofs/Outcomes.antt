@@ -1,6 +1,6 @@
 -- No two outcomes fit what check_roster promises: from what an answer tells the answer can be read back.
 use mathlib.Core.Path.{◌≡◌, refl, ap}
-use mathlib.Core.Bool.{Bool, true, false, cond}
+use mathlib.Core.Bool.{cond}
 use Rattle.day_rows.specs.Told.{Told, done, refused}
 use Rattle.day_rows.proofs.ToldLaws.{refusal_of, refusal-back, one_answer}
 use Rattle.roster_check.specs.Sheet.{Sheet}

@@ -1,6 +1,6 @@
 -- Sorted lists told by how often each number stands in them: equal exactly if the counts are.
 use mathlib.Core.Path.{◌≡◌, refl, sym, ◌∙◌, ap, ap₂}
-use mathlib.Core.Bool.{Bool, true, false, ◌&&◌, false≢true}
+use mathlib.Core.Bool.{Bool, true, false, false≢true}
 use mathlib.Core.List.{List, [], ◌∷◌, ◌++◌}
 use Prim.Native.Nat.{ℕ, zero, suc, ◌+◌, ◌≤◌, ◌<◌}
 use native.Mathlib.Decide.{ℕ_discrete}
@@ -8,8 +8,8 @@ use native.Mathlib.Nat.{zero-add, add_assoc, not-suc-le-zero}
 use native.Mathlib.Omega.{arith}
 use borrow.Author.Tests.{eq-eqb, eqb-true}
 use lib.Dec.{eqb}
-use lib.ListN.{length, replicate}
-use Rattle.base_lists.specs.Below.{one, all_below}
+use lib.ListN.{replicate}
+use Rattle.base_lists.specs.Below.{all_below}
 use Rattle.base_lists.specs.Flat.{join_below}
 use Rattle.base_lists.specs.Group.{times_in}
 use Rattle.base_lists.proofs.Below.{and_both, and_left, and_right, all-each, each_all}

@@ -1,10 +1,10 @@
 -- The rows of kinds 10 to 13: each kind's sentence, and each way through keeps_assignment_rows.
-use mathlib.Core.Path.{◌≡◌, refl, sym, ◌∙◌, ap}
-use mathlib.Core.Bool.{Bool, true, false, ◌&&◌, ◌||◌, not, cond}
+use mathlib.Core.Path.{◌≡◌, sym, ◌∙◌, ap}
+use mathlib.Core.Bool.{Bool, true, false, ◌||◌, not}
 use mathlib.Core.List.{List}
 use Prim.Native.Nat.{ℕ, ◌+◌, ◌*◌, ◌≤◌, ◌<◌}
 use borrow.Author.Tests.{eq-eqb, ne_eqb, le-leb, lt-leb}
-use lib.Dec.{eqb, leb}
+use lib.Dec.{eqb}
 use lib.ListN.{length, get_or}
 use Rattle.base_lists.specs.Below.{all_below}
 use Rattle.base_lists.specs.Group.{times_in}
@@ -12,7 +12,7 @@ use Rattle.base_lists.proofs.Below.{all_more, one-fails}
 use Rattle.day_rows.specs.declared.row.Row.{Row}
 use Rattle.plan_check.specs.Plan.{omitted}
 use Rattle.roster_rows.specs.Cells.{cells_of}
-use Rattle.roster_rows.specs.Rows.{sorted_by, equal_lists, choosers_in, choices_of, is_there, keeps_assignment_row, keeps_assignment_rows, roster_keeps}
+use Rattle.roster_rows.specs.Rows.{equal_lists, choosers_in, choices_of, is_there, keeps_assignment_row, keeps_assignment_rows, roster_keeps}
 use Rattle.roster_rows.specs.steps.Shapes.{Tally}
 use Rattle.roster_rows.proofs.EqualLaws.{sorted_equal}
 

@@ -4,11 +4,10 @@ use mathlib.Core.Path.{◌≡◌, refl, sym, ◌∙◌, ap}
 use mathlib.Core.Bool.{Bool, true, false, ◌||◌, not, false≢true}
 use mathlib.Core.List.{List, [], ◌∷◌}
 use mathlib.Core.Logic.{◌↔◌}
-use Prim.Native.Nat.{ℕ, zero, suc, ◌+◌, ◌≤◌, ◌<◌, zero-le, suc-le-suc}
+use Prim.Native.Nat.{ℕ, zero, suc, ◌<◌, zero-le, suc-le-suc}
 use native.Mathlib.Decide.{ℕ_discrete}
 use native.Mathlib.Nat.{not-suc-le-zero, le_of_suc-le-suc}
-use native.Mathlib.Omega.{arith}
-use borrow.Author.Tests.{eq-eqb, ne_eqb, eqb-true, not-true}
+use borrow.Author.Tests.{eq-eqb, eqb-true, not-true}
 use lib.Dec.{eqb}
 use lib.ListN.{length, get_or}
 use Rattle.base_lists.specs.Group.{times_in}
@@ -18,8 +17,8 @@ use Rattle.day_rows.specs.declared.row.Row.{Row}
 use Rattle.plan_check.specs.Plan.{slot_of, omitted}
 use Rattle.plan_check.proofs.PlanLaws.{is-omitted, not-omitted}
 use Rattle.roster_rows.specs.Cells.{cells_of}
-use Rattle.roster_rows.specs.Rows.{sorted_by, equal_lists, choosers_in, choices_of, is_there, keeps_assignment_row, roster_keeps}
-use Rattle.roster_rows.proofs.EqualLaws.{equal_means, equal_by, same_lists, sorted_times}
+use Rattle.roster_rows.specs.Rows.{equal_lists, choosers_in, choices_of, is_there, keeps_assignment_row, roster_keeps}
+use Rattle.roster_rows.proofs.EqualLaws.{equal_means, equal_by, sorted_times}
 use Rattle.roster_rows.proofs.KindLaws.{keeps_10, keeps_11, keeps_12, keeps_13}
 
 -- a cell of the chooser names the choice

@@ -3,13 +3,15 @@
 // Reading past a record's end gives 0, so that a damaged file shows as a difference.
 #![tactic(auto)]
 
-ghost use Rattle.std.specs.Prelude.{◌≡◌, ◌+◌, ◌%◌, ◌^◌, length, take, drop, replicate, slice_index};
+ghost use Rattle.std.specs.Prelude.{◌≡◌, ◌+◌, ◌%◌, ◌^◌, ◌≤◌, length, take, drop, replicate, slice_index};
 ghost use Rattle.test_cases.specs.steps.Alike.{alike};
 ghost use Rattle.test_cases.specs.steps.Buffers.{filled};
 ghost use Rattle.test_cases.specs.steps.Numbers.{word_at, number_at};
 ghost use Rattle.test_cases.specs.steps.Tallies.{counted, closed};
 
-use libc::STDOUT_FILENO;
+use std::fs::{File, Files};
+use std::io::Read;
+use std::{fs, io};
 
 pub mod parts;
 pub mod replay;
@@ -75,21 +77,16 @@ impl Tally {
 
     // Prints the tally's line: the name, how many agreed, how many differ, and which case was the first to
     // differ.
-    pub fn tell(self, name: &[u8]) {
-        io::write_all(STDOUT_FILENO, name);
-        io::write_all(STDOUT_FILENO, b" ");
-        io::print_decimal(
-            STDOUT_FILENO,
-            std::num::wrapping_sub_u64(self.cases, self.differ),
-        );
-        io::write_all(STDOUT_FILENO, b" agreed, ");
-        io::print_decimal(STDOUT_FILENO, self.differ);
-        io::write_all(STDOUT_FILENO, b" differ");
-        if 0 < self.differ {
-            io::write_all(STDOUT_FILENO, b", first at case ");
-            io::print_decimal(STDOUT_FILENO, self.first);
+    pub fn tell(self, rt: &impl Print, name: &[u8]) -> io::Result<()> {
+        let agreed = std::num::wrapping_sub_u64(self.cases, self.differ);
+        let differ = self.differ;
+        let first = self.first;
+        rt.write_all(name)?;
+        print!(rt; " {agreed} agreed, {differ} differ")?;
+        if 0 < differ {
+            print!(rt; ", first at case {first}")?;
         }
-        io::write_all(STDOUT_FILENO, b"\n");
+        rt.write_all(b"\n")
     }
 }
 
@@ -126,10 +123,35 @@ pub fn number(bytes: &[u8], at: usize) -> u64
         + (word(bytes, at + 6) as u64)
 }
 
+// Opens a file of the folder that the program runs in; none where it can't be opened.
+pub fn open_read(rt: &impl Files<File = File>, name: &[u8]) -> Option<File> {
+    let name = std::str::from_utf8(name).ok()?;
+    fs::open(rt, name).ok()
+}
+
+// Reads until the list is full, or the file ends or can't be read, and answers how many bytes it put at the
+// list's front.
+pub fn read_full(file: &mut File, bytes: &mut [u8]) -> usize
+    ensures { result ≤ length bytes.new }
+{
+    let mut done = 0;
+    while done < bytes.len() {
+        let got = file.read(&mut bytes[done..]);
+        let Ok(n) = got else {
+            break;
+        };
+        if n == 0 {
+            break;
+        }
+        done += n;
+    }
+    done
+}
+
 // Reads the next record's bytes to the buffer's front.
-fn read_next(file: i32, buffer: &mut [u8]) -> Next {
+fn read_next(file: &mut File, buffer: &mut [u8]) -> Next {
     let mut head = [0u8; 4];
-    let got = io::read_full(file, &mut head);
+    let got = read_full(file, &mut head);
     if got == 0 {
         return Next::End;
     }
@@ -140,7 +162,7 @@ fn read_next(file: i32, buffer: &mut [u8]) -> Next {
     if buffer.len() < size {
         return Next::Broken;
     }
-    let body = io::read_full(file, &mut buffer[..size]);
+    let body = read_full(file, &mut buffer[..size]);
     if body < size {
         return Next::Broken;
     }

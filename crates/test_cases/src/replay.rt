@@ -3,24 +3,25 @@
 ghost use Rattle.std.specs.Prelude.{◌≡◌, ◌-◌, ◌≤◌};
 ghost use Rattle.test_cases.specs.steps.Tallies.{counted, ReadOn};
 
-use super::{Next, Tally, ended, read_next};
+use super::{Next, Tally, ended, open_read, read_next};
+use std::fs::{File, Files};
 
 // The most records of a file that are read, so that every replay ends.
 const MOST_RECORDS: u64 = 0x1_0000_0000;
 
-// A replay between two records: its file, how many records may still come (0 once the file has ended), and
-// the tally of those that were judged.
-#[derive(Clone, Copy)]
+// A replay between two records: its file (none where it couldn't be opened, or has ended), how many records
+// may still come (0 once the file has ended), and the tally of those that were judged.
+#[derive(Drop)]
 pub struct Replay {
-    file: i32,
+    file: Option<File>,
     pub left: u64,
     pub tally: Tally,
 }
 
 impl Replay {
     // Opens a file of the folder that the program runs in, and reads its first record to the buffer.
-    pub fn of(name: &[u8], record: &mut [u8]) -> Replay {
-        let file = os::open_read(name);
+    pub fn of(rt: &impl Files<File = File>, name: &[u8], record: &mut [u8]) -> Replay {
+        let file = open_read(rt, name);
         read_on(file, MOST_RECORDS, Tally::new(), record)
     }
 
@@ -35,23 +36,30 @@ impl Replay {
 
 // Reads the next record to the buffer, or ends the replay: nothing more may come, and a broken record is a
 // difference.
-fn read_on(file: i32, left: u64, tally: Tally, record: &mut [u8]) -> Replay
+fn read_on(file: Option<File>, left: u64, tally: Tally, record: &mut [u8]) -> Replay
     ensures { (result.left ≤ left - 1) × ReadOn tally result.tally }
 {
     if left == 0 {
         return Replay { file, left, tally };
     }
-    let next = read_next(file, record);
+    let Some(mut file) = file else {
+        return Replay {
+            file: None,
+            left: 0,
+            tally,
+        };
+    };
+    let next = read_next(&mut file, record);
     let Next::Record(_) = next else {
         let tally = ended(next, tally);
         return Replay {
-            file,
+            file: None,
             left: 0,
             tally,
         };
     };
     Replay {
-        file,
+        file: Some(file),
         left: left - 1,
         tally,
     }

@@ -8,7 +8,7 @@ use day_rows::kind::Kind;
 use day_rows::op::Op;
 use day_rows::refusal::Refusal;
 use day_rows::row::Row;
-use libc::STDOUT_FILENO;
+use std::io;
 
 // The numbers that the columns left and right are set to: around each count's limit, and the ends of 16 bits.
 const NUMBERS: [u16; 13] = [0, 1, 23, 24, 25, 63, 64, 65, 199, 200, 201, 65534, 65535];
@@ -19,27 +19,27 @@ const EXTRAS: [u16; 13] = [
 ];
 
 // Prints a text.
-fn text(bytes: &[u8]) {
-    io::write_all(STDOUT_FILENO, bytes);
+fn text(rt: &impl Print, bytes: &[u8]) -> io::Result<()> {
+    rt.write_all(bytes)
 }
 
 // Ends a line.
-fn new_line() {
-    text(b"\n");
+fn new_line(rt: &impl Print) -> io::Result<()> {
+    text(rt, b"\n")
 }
 
 // Prints a number in decimal.
-fn number(n: u64) {
-    io::print_decimal(STDOUT_FILENO, n);
+fn number(rt: &impl Print, n: u64) -> io::Result<()> {
+    rt.print(n)
 }
 
 // Prints an extra column as the signed number that it stands for.
-fn signed(extra: u16) {
+fn signed(rt: &impl Print, extra: u16) -> io::Result<()> {
     if extra < Row::NO_EXTRA {
-        text(b"-");
-        number((Row::NO_EXTRA - extra) as u64);
+        text(rt, b"-")?;
+        number(rt, (Row::NO_EXTRA - extra) as u64)
     } else {
-        number((extra - Row::NO_EXTRA) as u64);
+        number(rt, (extra - Row::NO_EXTRA) as u64)
     }
 }
 
@@ -53,32 +53,33 @@ fn takes_of(i: usize) -> Takes {
 }
 
 // Prints which rows a call takes.
-fn takes_text(i: usize) {
+fn takes_text(rt: &impl Print, i: usize) -> io::Result<()> {
     match i {
-        0 => text(b"all"),
-        1 => text(b"scheduling"),
-        _ => text(b"assignment"),
+        0 => text(rt, b"all"),
+        1 => text(rt, b"scheduling"),
+        _ => text(rt, b"assignment"),
     }
 }
 
 // Prints an answer: `=good`, or `=` with the number and, for 5, the row.
-fn answer_text(answer: Checked) {
+fn answer_text(rt: &impl Print, answer: Checked) -> io::Result<()> {
     match answer {
-        Checked::Good => text(b"=good"),
+        Checked::Good => text(rt, b"=good"),
         Checked::Refused(refusal) => {
-            text(b"=");
-            number(refusal.number() as u64);
-            row_text(refusal);
+            text(rt, b"=")?;
+            number(rt, refusal.number() as u64)?;
+            row_text(rt, refusal)
         }
     }
 }
 
 // Prints the row that 5 carries.
-fn row_text(refusal: Refusal) {
+fn row_text(rt: &impl Print, refusal: Refusal) -> io::Result<()> {
     if let Refusal::Row(row) = refusal {
-        text(b" row ");
-        number(row as u64);
+        text(rt, b" row ")?;
+        number(rt, row as u64)?;
     }
+    Ok(())
 }
 
 // A row that each call takes.
@@ -128,11 +129,11 @@ fn probe(kind: u16, column: usize, value: u16) -> u64 {
 }
 
 // Prints a column's name.
-fn column_text(column: usize) {
+fn column_text(rt: &impl Print, column: usize) -> io::Result<()> {
     match column {
-        0 => text(b" left"),
-        1 => text(b" right"),
-        _ => text(b" extra"),
+        0 => text(rt, b" left"),
+        1 => text(rt, b" right"),
+        _ => text(rt, b" extra"),
     }
 }
 
@@ -148,60 +149,75 @@ fn value_of(column: usize, i: usize) -> u16 {
 }
 
 // Prints the value that a column is set to.
-fn value_text(column: usize, value: u16) {
-    text(b" ");
+fn value_text(rt: &impl Print, column: usize, value: u16) -> io::Result<()> {
+    text(rt, b" ")?;
     if column == 2 {
-        signed(value);
+        signed(rt, value)
     } else {
-        number(value as u64);
+        number(rt, value as u64)
     }
 }
 
 // Prints the answer for one value of one column, in the second row of two.
-fn answer_at(takes: usize, kind: u16, column: usize, value: u16) {
+fn answer_at(
+    rt: &impl Print,
+    takes: usize,
+    kind: u16,
+    column: usize,
+    value: u16,
+) -> io::Result<()> {
     let rows = [good_row(takes), probe(kind, column, value)];
-    answer_text(check_rows(counts_of(64, 24, 200, 2), takes_of(takes), &rows));
+    answer_text(
+        rt,
+        check_rows(counts_of(64, 24, 200, 2), takes_of(takes), &rows),
+    )
 }
 
 // Prints a line: one column of one kind at all its values.
-fn line(takes: usize, kind: u16, column: usize) {
-    takes_text(takes);
-    text(b" kind ");
-    number(kind as u64);
-    column_text(column);
+fn line(rt: &impl Print, takes: usize, kind: u16, column: usize) -> io::Result<()> {
+    takes_text(rt, takes)?;
+    text(rt, b" kind ")?;
+    number(rt, kind as u64)?;
+    column_text(rt, column)?;
     for i in 0..13usize {
         let value = value_of(column, i);
-        value_text(column, value);
-        answer_at(takes, kind, column, value);
+        value_text(rt, column, value)?;
+        answer_at(rt, takes, kind, column, value)?;
     }
-    new_line();
+    new_line(rt)
 }
 
 // Prints a line for counts and a length: how many of the good rows are lent is a number of its own.
-fn counted(takes: usize, counts: Counts, lent: usize, rows: &[u64]) {
+fn counted(
+    rt: &impl Print,
+    takes: usize,
+    counts: Counts,
+    lent: usize,
+    rows: &[u64],
+) -> io::Result<()> {
     if rows.len() < lent {
-        return;
+        return Ok(());
     }
     let part = &rows[..lent];
-    counts_text(takes, counts);
-    number(lent as u64);
-    text(b" ");
-    answer_text(check_rows(counts, takes_of(takes), part));
-    new_line();
+    counts_text(rt, takes, counts)?;
+    number(rt, lent as u64)?;
+    text(rt, b" ")?;
+    answer_text(rt, check_rows(counts, takes_of(takes), part))?;
+    new_line(rt)
 }
 
 // Prints the counts of a line.
-fn counts_text(takes: usize, counts: Counts) {
-    takes_text(takes);
-    text(b" choices ");
-    number(counts.choices as u64);
-    text(b" slots ");
-    number(counts.slots as u64);
-    text(b" choosers ");
-    number(counts.choosers as u64);
-    text(b" rows ");
-    number(counts.rows as u64);
-    text(b" lent ");
+fn counts_text(rt: &impl Print, takes: usize, counts: Counts) -> io::Result<()> {
+    takes_text(rt, takes)?;
+    text(rt, b" choices ")?;
+    number(rt, counts.choices as u64)?;
+    text(rt, b" slots ")?;
+    number(rt, counts.slots as u64)?;
+    text(rt, b" choosers ")?;
+    number(rt, counts.choosers as u64)?;
+    text(rt, b" rows ")?;
+    number(rt, counts.rows as u64)?;
+    text(rt, b" lent ")
 }
 
 // Counts by their four numbers.
@@ -215,48 +231,49 @@ fn counts_of(choices: usize, slots: usize, choosers: usize, rows: usize) -> Coun
 }
 
 // Prints the lines of each count at its limit and one over.
-fn counts_at_limits(takes: usize, rows: &[u64]) {
-    counted(takes, counts_of(64, 24, 200, 2), 2, rows);
-    counted(takes, counts_of(65, 24, 200, 2), 2, rows);
-    counted(takes, counts_of(64, 25, 200, 2), 2, rows);
-    counted(takes, counts_of(64, 24, 201, 2), 2, rows);
+fn counts_at_limits(rt: &impl Print, takes: usize, rows: &[u64]) -> io::Result<()> {
+    counted(rt, takes, counts_of(64, 24, 200, 2), 2, rows)?;
+    counted(rt, takes, counts_of(65, 24, 200, 2), 2, rows)?;
+    counted(rt, takes, counts_of(64, 25, 200, 2), 2, rows)?;
+    counted(rt, takes, counts_of(64, 24, 201, 2), 2, rows)
 }
 
 // Prints the lines of the rows at their limit and one over.
-fn rows_at_limit(takes: usize, most: usize, rows: &[u64]) {
-    counted(takes, counts_of(64, 24, 200, most), most, rows);
+fn rows_at_limit(rt: &impl Print, takes: usize, most: usize, rows: &[u64]) -> io::Result<()> {
+    counted(rt, takes, counts_of(64, 24, 200, most), most, rows)?;
     if most < 1025 {
-        counted(takes, counts_of(64, 24, 200, most + 1), most + 1, rows);
+        counted(rt, takes, counts_of(64, 24, 200, most + 1), most + 1, rows)?;
     }
+    Ok(())
 }
 
 // Prints the lines of a length that isn't the count's: 1 before 2, and 2 before 5.
-fn lengths_apart(takes: usize, rows: &[u64]) {
-    counted(takes, counts_of(64, 24, 200, 2), 1, rows);
-    counted(takes, counts_of(64, 24, 200, 2), 3, rows);
-    counted(takes, counts_of(65, 24, 200, 2), 3, rows);
-    counted(takes, counts_of(0, 0, 0, 2), 3, rows);
-    counted(takes, counts_of(0, 0, 0, 2), 2, rows);
-    counted(takes, counts_of(0, 0, 0, 0), 0, rows);
+fn lengths_apart(rt: &impl Print, takes: usize, rows: &[u64]) -> io::Result<()> {
+    counted(rt, takes, counts_of(64, 24, 200, 2), 1, rows)?;
+    counted(rt, takes, counts_of(64, 24, 200, 2), 3, rows)?;
+    counted(rt, takes, counts_of(65, 24, 200, 2), 3, rows)?;
+    counted(rt, takes, counts_of(0, 0, 0, 2), 3, rows)?;
+    counted(rt, takes, counts_of(0, 0, 0, 2), 2, rows)?;
+    counted(rt, takes, counts_of(0, 0, 0, 0), 0, rows)
 }
 
 // Prints the lines of counts and lengths for the rows that a call takes.
-fn limits(takes: usize, most: usize) {
+fn limits(rt: &impl Print, takes: usize, most: usize) -> io::Result<()> {
     let rows = [good_row(takes); 1025];
-    counts_at_limits(takes, &rows);
-    rows_at_limit(takes, most, &rows);
-    lengths_apart(takes, &rows);
+    counts_at_limits(rt, takes, &rows)?;
+    rows_at_limit(rt, takes, most, &rows)?;
+    lengths_apart(rt, takes, &rows)
 }
 
-fn main() {
+fn main(rt: HostRuntime) -> io::Result<()> {
     for takes in 0..3usize {
         for kind in 0..18u16 {
-            line(takes, kind, 0);
-            line(takes, kind, 1);
-            line(takes, kind, 2);
+            line(&rt, takes, kind, 0)?;
+            line(&rt, takes, kind, 1)?;
+            line(&rt, takes, kind, 2)?;
         }
     }
-    limits(0, 128);
-    limits(1, 1024);
-    limits(2, 1024);
+    limits(&rt, 0, 128)?;
+    limits(&rt, 1, 1024)?;
+    limits(&rt, 2, 1024)
 }

@@ -1,13 +1,13 @@
 -- What reading a file answers and makes sure of.
 use mathlib.Core.Path.{◌≡◌, refl, sym, ◌∙◌, ap}
 use mathlib.Core.Bool.{Bool, true, false, ◌&&◌, cond}
-use mathlib.Core.List.{List, ◌++◌}
+use mathlib.Core.List.{List}
 use Prim.Native.Nat.{ℕ, ◌-◌, ◌*◌, ◌≤◌, ◌<◌}
 use native.Mathlib.Nat.{mul-le-mul_right}
 use native.Mathlib.Omega.{arith}
 use borrow.Author.Tests.{le-leb, lt-leb, leb-true, eq-eqb}
 use lib.Dec.{leb}
-use lib.ListN.{length, get_or, take, replicate, length-replicate}
+use lib.ListN.{length, take, replicate}
 use lib.Seq.{take_at}
 use Rattle.base_lists.specs.All.{all_at_most}
 use Rattle.base_lists.specs.Pool.{pad}
@@ -16,7 +16,7 @@ use Rattle.base_lists.proofs.Flat.{length-list}
 use Rattle.base_lists.proofs.Pad.{length-pad}
 use Rattle.day_rows.specs.Check.{counts_in_range}
 use Rattle.day_rows.specs.Refusal.{number_of, carried_by}
-use Rattle.day_rows.specs.Told.{Told, done, refused, Verdict, good, unless, Outcome, outcome, judged}
+use Rattle.day_rows.specs.Told.{done, refused, Verdict, good, unless, Outcome, outcome, judged}
 use Rattle.day_rows.specs.declared.check.Counts.{Counts}
 use Rattle.day_rows.specs.declared.check.Takes.TheVariants as takes
 use Rattle.day_rows.specs.declared.refusal.Refusal.{Refusal}

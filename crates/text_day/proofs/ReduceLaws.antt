@@ -1,24 +1,21 @@
 -- What the reduction of a read day answers.
 use mathlib.Core.Path.{◌≡◌, refl, sym, ◌∙◌, ap}
-use mathlib.Core.Bool.{Bool, true, false, ◌&&◌, cond}
-use mathlib.Core.List.{List, [], ◌∷◌, ◌++◌, append_assoc}
-use Prim.Native.Nat.{ℕ, ◌+◌, ◌-◌, ◌*◌, ◌≤◌, ◌<◌}
+use mathlib.Core.Bool.{Bool, true, false, cond}
+use mathlib.Core.List.{List, ◌++◌, append_assoc}
+use Prim.Native.Nat.{ℕ, ◌-◌, ◌≤◌}
 use native.Mathlib.Omega.{arith}
-use borrow.Author.Tests.{le-leb, leb-true, eq-eqb}
-use lib.Dec.{eqb, leb}
-use lib.ListN.{length, take, replicate, length-append, length-replicate}
+use borrow.Author.Tests.{leb-true, eq-eqb}
+use lib.Dec.{leb}
+use lib.ListN.{length, take, replicate, length-append}
 use lib.Seq.{take_at}
 use Rattle.base_lists.specs.Pool.{pad}
 use Rattle.base_lists.proofs.Pad.{length-pad}
 use Rattle.base_lists.proofs.Sorted.{length_unique}
-use Rattle.day_rows.specs.Check.{counts_in_range, most_rows, rows_judged}
-use Rattle.day_rows.specs.Refusal.{number_of, carried_by}
-use Rattle.day_rows.specs.Told.{Told, done, refused, good, refuse, Outcome, outcome}
+use Rattle.day_rows.specs.Refusal.{number_of}
+use Rattle.day_rows.specs.Told.{done, refused, refuse, Outcome, outcome}
 use Rattle.day_rows.proofs.ToldLaws.{done-is, refused-not-done, refused-number}
 use Rattle.day_rows.specs.declared.check.Counts.{Counts}
-use Rattle.day_rows.specs.declared.check.Takes.TheVariants as takes
 use Rattle.day_rows.specs.declared.refusal.Refusal.{Refusal}
-use Rattle.day_rows.proofs.CountLaws.{within}
 use Rattle.reduce_turn.specs.Turn.{clash_of}
 use Rattle.reduce.specs.Reduction.{expanded, reduced_rows, search_list, roster_list, reduced_tells, reduction_of, reduce_of}
 use Rattle.reduce.specs.declared.Reduction.{Reduction}

@@ -1,8 +1,8 @@
 -- The search's part of a reduction: how many rows it has, and that the listing takes it.
 use mathlib.Core.Path.{◌≡◌, refl, sym, ◌∙◌, ap}
 use mathlib.Core.Bool.{Bool, true, false, ◌&&◌, cond}
-use mathlib.Core.List.{List, [], ◌∷◌, ◌++◌, Memᴰ}
-use mathlib.Core.Logic.{◌⊎◌, ⊎_elim}
+use mathlib.Core.List.{List, [], ◌∷◌, Memᴰ}
+use mathlib.Core.Logic.{⊎_elim}
 use Prim.Native.Nat.{ℕ, zero, suc, ◌+◌, ◌≤◌, ◌<◌}
 use native.Mathlib.Omega.{arith}
 use borrow.Author.Tests.{le-leb, lt-leb, leb-true}
@@ -21,7 +21,7 @@ use Rattle.day_rows.specs.Told.{good}
 use Rattle.day_rows.specs.declared.table.Name.{Name}
 use Rattle.day_rows.specs.declared.table.Name.TheVariants as name
 use Rattle.day_rows.specs.declared.row.Row.{Row}
-use Rattle.day_rows.proofs.KeptLaws.{Kept, kept, keeps, each-good}
+use Rattle.day_rows.proofs.KeptLaws.{kept, keeps, each-good}
 use Rattle.day_rows.proofs.KindLaws.{takes_assignment}
 use Rattle.reduce_turn.specs.Turn.{kind_of}
 use Rattle.reduce.specs.Reduction.{reduced_rows, search_list}

@@ -1,5 +1,5 @@
 -- A number read from its digits: an argument that is no number is told from one that is.
-use Rattle.std.specs.Prelude.{Bool, true, false, cond, ◌&&◌, List, [], ◌∷◌, ℕ, ◌+◌, ◌*◌, ◌-◌, ◌^◌, ltb, leb, length}
+use Rattle.std.specs.Prelude.{Bool, cond, ◌&&◌, List, [], ◌∷◌, ℕ, ◌+◌, ◌*◌, ◌-◌, ◌^◌, ltb, leb, length}
 use Rattle.base_lists.specs.All.{all_of}
 use Rattle.text_lines.specs.declared.number.Number.{Number}
 use Rattle.text_lines.specs.declared.number.Number.TheVariants as number

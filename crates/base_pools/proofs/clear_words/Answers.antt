@@ -1,5 +1,4 @@
 use mathlib.Core.Path.{refl}
-use Prim.Native.Nat.{◌-◌}
 use Rattle.base_pools.proofs.Clearing.{cleared-start, cleared_more, cleared-all}
 use Rattle.base_pools.proofs.clear_words.Goals as goal
 

@@ -1,5 +1,4 @@
 use mathlib.Core.Path.{sym, ◌∙◌}
-use Prim.Native.Nat.{◌-◌}
 use native.Mathlib.Omega.{arith}
 use Rattle.reduce_union_find.proofs.Root.{ends_in, climb-here, next}
 use Rattle.reduce_union_find.proofs.+climb.Goals as goal

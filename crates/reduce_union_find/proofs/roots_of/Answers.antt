@@ -1,11 +1,9 @@
 use mathlib.Core.Path.{◌≡◌, sym}
-use Prim.Native.Nat.{◌-◌}
 use native.Mathlib.Omega.{arith}
 use borrow.Author.Count.{below_none}
 use borrow.Author.Rules.{rules}
 use lib.ListN.{length-set}
 use Rattle.base_lists.proofs.Pad.{fill_more}
-use Rattle.reduce_union_find.specs.State.{climb}
 use Rattle.reduce_union_find.proofs.Root.{climb_in}
 use Rattle.reduce_union_find.proofs.roots_of.Goals as goal
 

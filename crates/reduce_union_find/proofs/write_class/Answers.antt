@@ -1,6 +1,5 @@
 use mathlib.Core.Path.{◌≡◌, sym, ◌∙◌}
 use mathlib.Core.Logic.{⊎_elim}
-use Prim.Native.Nat.{◌-◌}
 use native.Mathlib.Omega.{arith}
 use borrow.Author.Rules.{rules}
 use Rattle.reduce_union_find.proofs.Writing.{class_start, class_takes, class_skips, class_length, class_place}
@@ -17,15 +16,15 @@ bounds-members-at c =
 pub overflow_add-at : goal.overflow_add-at
 overflow_add-at c =
     let h = c.requires in
-    omega (arith, slice-write-members c, class_length _ _ _ _ _ _ _ c.loop-i.invariant.1)
+    omega (arith, h.2, class_place _ _ _ _ _ _ _ c.loop-i.invariant.1 _ c.loop-i-test.true (sym c.wide.ensures.0 ∙ c.if-wide-root.true) (rw h.2 h.3))
 
 pub loop-i-preserved : goal.loop-i-preserved
 loop-i-preserved c =
     let w = c.loop-i.invariant.1 in
     let e = c.wide.ensures.0 in (
       search rules,
-      ⊎_elim (λ a. rw (a.1, a.2) (class_takes _ _ _ _ _ _ _ w (sym e ∙ a.0.taken)))
-          (λ a. rw (a.1, a.2) (class_skips _ _ _ _ _ _ _ w (λ z. a.0.left (e ∙ z))))
+      ⊎_elim (λ a. rw (a.members-is, a.at-is) (class_takes _ _ _ _ _ _ _ w (sym e ∙ a.if-wide-root.true)))
+          (λ a. rw (a.members-is, a.at-is) (class_skips _ _ _ _ _ _ _ w (λ z. a.if-wide-root.false (e ∙ z))))
           c.if-wide-root.branch-raw,
     )
 

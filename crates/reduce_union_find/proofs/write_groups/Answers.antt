@@ -1,6 +1,6 @@
 use mathlib.Core.Path.{◌≡◌, sym, ◌∙◌}
 use mathlib.Core.Logic.{⊎_elim}
-use Prim.Native.Nat.{ℕ, ◌-◌}
+use Prim.Native.Nat.{ℕ}
 use native.Mathlib.Omega.{arith}
 use borrow.Author.Rules.{rules}
 use lib.ListN.{get_or}
@@ -52,8 +52,8 @@ loop-root-preserved c =
     let lt = c.loop-root-test.true in (
       search rules,
       ⊎_elim
-          (λ t. rw (t.5, t.6, t.7, t.8) (groups-take _ _ f _ _ _ _ a.requires.1 w lt (sym e ∙ t.0.taken) _ _ t.2.ensures.0 t.2.ensures.1))
-          (λ t. rw (t.1, t.2, t.3, t.4) (groups_skip _ _ f _ _ _ _ a.requires.1 w (λ z. t.0.left (e ∙ z))))
+          (λ t. rw (t.members-is, t.ends-is, t.count-is, t.at-is) (groups-take _ _ f _ _ _ _ a.requires.1 w lt (sym e ∙ t.if-wide-root.true) _ _ t.write_class-at.ensures.0 t.write_class-at.ensures.1))
+          (λ t. rw (t.members-is, t.ends-is, t.count-is, t.at-is) (groups_skip _ _ f _ _ _ _ a.requires.1 w (λ z. t.if-wide-root.false (e ∙ z))))
           c.if-wide-root.branch-raw,
     )
 

@@ -1,5 +1,4 @@
 use mathlib.Core.Path.{sym, ◌∙◌}
-use Prim.Native.Nat.{◌-◌}
 use Rattle.base_choice_sets.proofs.ReachLaws.{covered_start, covered_on, covered_past, covered_all}
 use borrow.Author.Rules.{rules}
 use Rattle.base_choice_sets.proofs.reach.covered_slots.Goals as goal

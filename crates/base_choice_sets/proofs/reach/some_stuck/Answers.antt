@@ -1,5 +1,4 @@
 use mathlib.Core.Path.{sym, ◌∙◌}
-use Prim.Native.Nat.{◌-◌}
 use Rattle.base_choice_sets.proofs.ReachLaws.{left-start, stuck-here, left-on, stuck-none}
 use borrow.Author.Rules.{rules}
 use Rattle.base_choice_sets.proofs.reach.some_stuck.Goals as goal

@@ -1,9 +1,7 @@
 use mathlib.Core.Path.{refl}
-use Prim.Native.Nat.{◌-◌}
 use native.Mathlib.Omega.{arith}
 use lib.ListN.{length-set}
 use Rattle.base_lists.proofs.Flat.{fill_start, fill_next, fill_done}
-use Rattle.day_file.specs.File.{word_at}
 use borrow.Author.Rules.{rules}
 use Rattle.day_file.proofs.fill.put_words.Goals as goal
 

@@ -1,5 +1,3 @@
-use mathlib.Core.Bool.{true}
-use Prim.Native.Nat.{◌-◌}
 use native.Mathlib.Omega.{arith}
 use Rattle.base_lists.proofs.Through.{all_none, all_done}
 use Rattle.day_file.proofs.JudgeLaws.{rise-fails, rise-more}

@@ -1,6 +1,4 @@
 use mathlib.Core.Path.{sym}
-use mathlib.Core.Bool.{true}
-use Prim.Native.Nat.{◌-◌}
 use borrow.Author.Tests.{le-leb, lt-leb}
 use Rattle.base_lists.proofs.Below.{all_more, one-fails}
 use Rattle.base_lists.proofs.Through.{all_none, all_done}

@@ -6,23 +6,23 @@ use Rattle.day_file.proofs.read.fill_pools.Goals as goal
 
 pub fill_words-requires : goal.fill_words-requires
 fill_words-requires c =
-    let s = c in
-    mins_ask (within s.requires.fact_1 s.requires.fact_2.0 c.places-places.ensures) (full _ _ _ _ _ _ s.requires.fact_2.1).mins-full
+    let a = mins_ask (within c.requires.fact_1 c.requires.fact_2 c.places-places.ensures) (full _ _ _ _ _ _ c.requires.fact_3).mins-full in
+    record { fact_1 = a.0; fact_2 = a.1 }
 
 pub fill_words-requires-2 : goal.fill_words-requires-2
 fill_words-requires-2 c =
-    let s = c in
-    maxs_ask (within s.requires.fact_1 s.requires.fact_2.0 c.places-places.ensures) (full _ _ _ _ _ _ s.requires.fact_2.1).maxs-full
+    let a = maxs_ask (within c.requires.fact_1 c.requires.fact_2 c.places-places.ensures) (full _ _ _ _ _ _ c.requires.fact_3).maxs-full in
+    record { fact_1 = a.0; fact_2 = a.1 }
 
 pub fill_optional-requires : goal.fill_optional-requires
 fill_optional-requires c =
-    let s = c in
-    optional_ask (within s.requires.fact_1 s.requires.fact_2.0 c.places-places.ensures) (full _ _ _ _ _ _ s.requires.fact_2.1).optional-full
+    let a = optional_ask (within c.requires.fact_1 c.requires.fact_2 c.places-places.ensures) (full _ _ _ _ _ _ c.requires.fact_3).optional-full in
+    record { fact_1 = a.0; fact_2 = a.1 }
 
 pub fill_words-requires-3 : goal.fill_words-requires-3
 fill_words-requires-3 c =
-    let s = c in
-    levels_ask (within s.requires.fact_1 s.requires.fact_2.0 c.places-places.ensures) (full _ _ _ _ _ _ s.requires.fact_2.1).levels-full
+    let a = levels_ask (within c.requires.fact_1 c.requires.fact_2 c.places-places.ensures) (full _ _ _ _ _ _ c.requires.fact_3).levels-full in
+    record { fact_1 = a.0; fact_2 = a.1 }
 
 pub overflow_mul-counts : goal.overflow_mul-counts
 overflow_mul-counts c =
@@ -30,15 +30,14 @@ overflow_mul-counts c =
 
 pub fill_words-requires-4 : goal.fill_words-requires-4
 fill_words-requires-4 c =
-    let s = c in
-    preferences_ask (within s.requires.fact_1 s.requires.fact_2.0 c.places-places.ensures) (full _ _ _ _ _ _ s.requires.fact_2.1).preferences-full
+    let a = preferences_ask (within c.requires.fact_1 c.requires.fact_2 c.places-places.ensures) (full _ _ _ _ _ _ c.requires.fact_3).preferences-full in
+    record { fact_1 = a.0; fact_2 = a.1 }
 
 pub fill_rows-requires : goal.fill_rows-requires
 fill_rows-requires c =
-    let s = c in
-    rows_ask (within s.requires.fact_1 s.requires.fact_2.0 c.places-places.ensures) (full _ _ _ _ _ _ s.requires.fact_2.1).rows-full
+    let a = rows_ask (within c.requires.fact_1 c.requires.fact_2 c.places-places.ensures) (full _ _ _ _ _ _ c.requires.fact_3).rows-full in
+    record { fact_1 = a.0; fact_2 = a.1 }
 
 pub returns : goal.returns
 returns c =
-    let s = c in
-    filled _ _ c.places-places.ensures (full _ _ _ _ _ _ s.requires.fact_2.1) c.fill_words.ensures c.fill_words-2.ensures c.fill_optional.ensures c.fill_words-3.ensures c.fill_words-4.ensures c.fill_rows.ensures
+    filled _ _ c.places-places.ensures (full _ _ _ _ _ _ c.requires.fact_3) c.fill_words.ensures c.fill_words-2.ensures c.fill_optional.ensures c.fill_words-3.ensures c.fill_words-4.ensures c.fill_rows.ensures

@@ -37,7 +37,8 @@ returns-then-not-preferences_in c =
 
 pub rows_in-requires : goal.rows_in-requires
 rows_in-requires c =
-    rows_ask (within c.requires.fact_1 c.requires.fact_2 c.places-places.ensures) refl
+    let a = rows_ask (within c.requires.fact_1 c.requires.fact_2 c.places-places.ensures) refl in
+    record { fact_1 = a.0; fact_2 = a.1 }
 
 pub returns : goal.returns
 returns c =

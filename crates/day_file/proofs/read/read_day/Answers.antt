@@ -24,7 +24,11 @@ pub fill_pools-requires : goal.fill_pools-requires
 fill_pools-requires c =
     let s = c in
     let h = read_head _ (parts s.args.mins.now s.args.maxs.now s.args.optional.now s.args.levels.now s.args.preferences.now s.args.rows.now) c.pools_full.ensures (c.if-not-pools_full.false) c.judge_file-judged.ensures (ap checked_tells c.in_default.is) in
-    (counts-keep _ h c.counts_in-counts.ensures, (counts_end _ h c.counts_in-counts.ensures, sym c.pools_full.ensures ∙ c.if-not-pools_full.false))
+    record {
+      fact_1 = counts-keep _ h c.counts_in-counts.ensures;
+      fact_2 = counts_end _ h c.counts_in-counts.ensures;
+      fact_3 = sym c.pools_full.ensures ∙ c.if-not-pools_full.false;
+    }
 
 pub returns : goal.returns
 returns c =

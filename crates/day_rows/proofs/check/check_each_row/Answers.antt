@@ -1,5 +1,4 @@
 use mathlib.Core.Path.{sym, ◌∙◌}
-use Prim.Native.Nat.{◌-◌}
 use borrow.Author.Rules.{rules}
 use Rattle.day_rows.proofs.CheckLaws.{from_start, from_next, stops_at, none_bad}
 use Rattle.day_rows.proofs.check.check_each_row.Goals as goal

@@ -1,7 +1,6 @@
 -- In each arm the column's name is known; past them it is a chooser.
 use mathlib.Core.Path.{◌≡◌, refl}
 use mathlib.Core.Bool.{true, false≢true}
-use mathlib.Core.List.{[], ◌∷◌}
 use Prim.Native.Nat.{ℕ}
 use lib.Dec.{ltb}
 use Rattle.day_rows.specs.steps.Lines.{on_left}

@@ -1,7 +1,6 @@
 -- In each arm the column's name is known; past them it is a limit.
 use mathlib.Core.Path.{◌≡◌, refl, sym}
 use mathlib.Core.Bool.{true, false≢true}
-use mathlib.Core.List.{[], ◌∷◌}
 use Prim.Native.Nat.{ℕ, ◌≤◌}
 use Rattle.day_rows.specs.steps.Lines.{on_right}
 use Rattle.day_rows.specs.Check.{column_holds}

@@ -1,5 +1,4 @@
 use mathlib.Core.Path.{refl, ◌∙◌}
-use Prim.Native.Nat.{◌-◌}
 use native.Mathlib.Omega.{arith}
 use Rattle.base_lists.proofs.Stores.{sets-start, sets_join, sets-done}
 use Rattle.day_file.specs.File.{choice_bytes}

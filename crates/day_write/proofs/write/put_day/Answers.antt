@@ -11,31 +11,28 @@ use Rattle.day_write.proofs.write.put_day.Goals as goal
 
 pub put_head-requires : goal.put_head-requires
 put_head-requires c =
-    record { fact_1 = c.requires.fact_1; fact_2 = omega (arith, c.clear_bytes.auto.bytes, c.requires.fact_2.1.1) }
+    record { fact_1 = c.requires.fact_1; fact_2 = omega (arith, c.clear_bytes.auto.bytes, c.requires.fact_4) }
 
 pub put_choices-levels_at-requires : goal.put_choices-levels_at-requires
 put_choices-levels_at-requires c =
-    let s = c in
-    let lists = (parts s.args.mins.now s.args.maxs.now s.args.optional.now s.args.levels.now s.args.preferences.now s.args.rows.now) in
-    choices-room s.args.counts lists (lengths s.args.counts lists s.requires.fact_2.0) (in_range s.args.counts s.requires.fact_1) (c.put_head.auto.pool ∙ c.clear_bytes.auto.bytes ∙ s.requires.fact_2.1.1)
+    let lists = (parts c.args.mins.now c.args.maxs.now c.args.optional.now c.args.levels.now c.args.preferences.now c.args.rows.now) in
+    let a = choices-room c.args.counts lists (lengths c.args.counts lists c.requires.fact_2) (in_range c.args.counts c.requires.fact_1) (c.put_head.auto.pool ∙ c.clear_bytes.auto.bytes ∙ c.requires.fact_4) in
+    record { fact_1 = a.0; fact_2 = a.1.0; fact_3 = a.1.1.0; fact_4 = a.1.1.1 }
 
 pub put_words-preferences_at-requires : goal.put_words-preferences_at-requires
 put_words-preferences_at-requires c =
-    let s = c in
-    let lists = (parts s.args.mins.now s.args.maxs.now s.args.optional.now s.args.levels.now s.args.preferences.now s.args.rows.now) in
-    levels-room s.args.counts lists (lengths s.args.counts lists s.requires.fact_2.0) (in_range s.args.counts s.requires.fact_1) (c.put_choices-levels_at.auto.pool ∙ c.put_head.auto.pool ∙ c.clear_bytes.auto.bytes ∙ s.requires.fact_2.1.1) c.put_choices-levels_at.ensures.fact_1
+    let lists = (parts c.args.mins.now c.args.maxs.now c.args.optional.now c.args.levels.now c.args.preferences.now c.args.rows.now) in
+    levels-room c.args.counts lists (lengths c.args.counts lists c.requires.fact_2) (in_range c.args.counts c.requires.fact_1) (c.put_choices-levels_at.auto.pool ∙ c.put_head.auto.pool ∙ c.clear_bytes.auto.bytes ∙ c.requires.fact_4) c.put_choices-levels_at.ensures.fact_1
 
 pub put_words-rows_at-requires : goal.put_words-rows_at-requires
 put_words-rows_at-requires c =
-    let s = c in
-    let lists = (parts s.args.mins.now s.args.maxs.now s.args.optional.now s.args.levels.now s.args.preferences.now s.args.rows.now) in
-    preferences-room s.args.counts lists (lengths s.args.counts lists s.requires.fact_2.0) (in_range s.args.counts s.requires.fact_1) (c.put_words-preferences_at.auto.pool ∙ c.put_choices-levels_at.auto.pool ∙ c.put_head.auto.pool ∙ c.clear_bytes.auto.bytes ∙ s.requires.fact_2.1.1) c.put_choices-levels_at.ensures.fact_1 c.put_words-preferences_at.ensures.fact_1
+    let lists = (parts c.args.mins.now c.args.maxs.now c.args.optional.now c.args.levels.now c.args.preferences.now c.args.rows.now) in
+    preferences-room c.args.counts lists (lengths c.args.counts lists c.requires.fact_2) (in_range c.args.counts c.requires.fact_1) (c.put_words-preferences_at.auto.pool ∙ c.put_choices-levels_at.auto.pool ∙ c.put_head.auto.pool ∙ c.clear_bytes.auto.bytes ∙ c.requires.fact_4) c.put_choices-levels_at.ensures.fact_1 c.put_words-preferences_at.ensures.fact_1
 
 pub put_rows-requires : goal.put_rows-requires
 put_rows-requires c =
-    let s = c in
-    let lists = (parts s.args.mins.now s.args.maxs.now s.args.optional.now s.args.levels.now s.args.preferences.now s.args.rows.now) in
-    record { fact_1 = rows-room s.args.counts lists (lengths s.args.counts lists s.requires.fact_2.0) (in_range s.args.counts s.requires.fact_1) (c.put_words-rows_at.auto.pool ∙ c.put_words-preferences_at.auto.pool ∙ c.put_choices-levels_at.auto.pool ∙ c.put_head.auto.pool ∙ c.clear_bytes.auto.bytes ∙ s.requires.fact_2.1.1) c.put_choices-levels_at.ensures.fact_1 c.put_words-preferences_at.ensures.fact_1 c.put_words-rows_at.ensures.fact_1; fact_2 = rows_fit (day s.args.counts lists) s.requires.fact_1 s.requires.fact_2.1.0 }
+    let lists = (parts c.args.mins.now c.args.maxs.now c.args.optional.now c.args.levels.now c.args.preferences.now c.args.rows.now) in
+    record { fact_1 = rows-room c.args.counts lists (lengths c.args.counts lists c.requires.fact_2) (in_range c.args.counts c.requires.fact_1) (c.put_words-rows_at.auto.pool ∙ c.put_words-preferences_at.auto.pool ∙ c.put_choices-levels_at.auto.pool ∙ c.put_head.auto.pool ∙ c.clear_bytes.auto.bytes ∙ c.requires.fact_4) c.put_choices-levels_at.ensures.fact_1 c.put_words-preferences_at.ensures.fact_1 c.put_words-rows_at.ensures.fact_1; fact_2 = rows_fit (day c.args.counts lists) c.requires.fact_1 c.requires.fact_3 }
 
 pub shape_of-pool : goal.shape_of-pool
 shape_of-pool c =
@@ -43,6 +40,5 @@ shape_of-pool c =
 
 pub returns : goal.returns
 returns c =
-    let s = c in
-    let lists = (parts s.args.mins.now s.args.maxs.now s.args.optional.now s.args.levels.now s.args.preferences.now s.args.rows.now) in
-    parts-put s.args.counts lists (lengths s.args.counts lists s.requires.fact_2.0) (in_range s.args.counts s.requires.fact_1) _ (c.clear_bytes.ensures ∙ ap (λ (n : ℕ). replicate n 0) s.requires.fact_2.1.1) c.put_head.ensures c.put_choices-levels_at.ensures.fact_1 c.put_choices-levels_at.ensures.fact_2 c.put_words-preferences_at.ensures.fact_1 c.put_words-preferences_at.ensures.fact_2 c.put_words-rows_at.ensures.fact_1 c.put_words-rows_at.ensures.fact_2 c.put_rows.ensures.fact_1 c.put_rows.ensures.fact_2
+    let lists = (parts c.args.mins.now c.args.maxs.now c.args.optional.now c.args.levels.now c.args.preferences.now c.args.rows.now) in
+    parts-put c.args.counts lists (lengths c.args.counts lists c.requires.fact_2) (in_range c.args.counts c.requires.fact_1) _ (c.clear_bytes.ensures ∙ ap (λ (n : ℕ). replicate n 0) c.requires.fact_4) c.put_head.ensures c.put_choices-levels_at.ensures.fact_1 c.put_choices-levels_at.ensures.fact_2 c.put_words-preferences_at.ensures.fact_1 c.put_words-preferences_at.ensures.fact_2 c.put_words-rows_at.ensures.fact_1 c.put_words-rows_at.ensures.fact_2 c.put_rows.ensures.fact_1 c.put_rows.ensures.fact_2

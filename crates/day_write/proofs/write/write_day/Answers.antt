@@ -11,10 +11,14 @@ returns-in-Refused c =
 
 pub put_day-requires : goal.put_day-requires
 put_day-requires c =
-    let s = c in
-    let d = (day s.args.counts (parts s.args.mins.now s.args.maxs.now s.args.optional.now s.args.levels.now s.args.preferences.now s.args.rows.now)) in
-    let g = write_asks d s.args.pool.now c.judge_day-judged.ensures (ap checked_tells c.in_default.is) in
-    (g.counts-good, (g.lengths-good, (rows-good d g.lists_are_good, g.room-good)))
+    let d = (day c.args.counts (parts c.args.mins.now c.args.maxs.now c.args.optional.now c.args.levels.now c.args.preferences.now c.args.rows.now)) in
+    let g = write_asks d c.args.pool.now c.judge_day-judged.ensures (ap checked_tells c.in_default.is) in
+    record {
+      fact_1 = g.counts-good;
+      fact_2 = g.lengths-good;
+      fact_3 = rows-good d g.lists_are_good;
+      fact_4 = g.room-good;
+    }
 
 pub returns : goal.returns
 returns c =

@@ -7,7 +7,7 @@ use Rattle.list_look.proofs.open.fitting_slots.Given as goal
 
 abbrev pub invariant-loop-slot : goal.invariant-loop-slot
 invariant-loop-slot l =
-    (l.slot ≤ l.slots) × (l.found ≡ set_of l.slot (slot_fits l.choosers l.least l.sums l.domain))
+    (l.slot ≤ l.slots) × (l.found ≡ set_of l.slot (slot_fits l.choosers l.least l.slot_min l.domain))
 
 abbrev pub decreases-loop-slot : goal.decreases-loop-slot
 decreases-loop-slot l =

@@ -7,7 +7,7 @@ use Rattle.list_look.proofs.open.need_by_fills.Given as goal
 
 abbrev pub invariant-loop-slot : goal.invariant-loop-slot
 invariant-loop-slot l =
-    ((l.slot ≤ l.slots) × (l.need ≤ l.slot * 65535)) × (l.need ≡ need_of (entry_at l.tables) l.slot 1 l.from (lacks_at l.choosers l.slots l.fills))
+    ((l.slot ≤ l.slots) × (l.need ≤ l.slot * 65535)) × (l.need ≡ need_of (entry_at l.tables) l.slot 1 l.from (lacks_at l.choosers l.slots l.slot_max))
 
 abbrev pub decreases-loop-slot : goal.decreases-loop-slot
 decreases-loop-slot l =

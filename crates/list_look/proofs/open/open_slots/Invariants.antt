@@ -8,7 +8,7 @@ use Rattle.list_look.proofs.open.open_slots.Given as goal
 
 abbrev pub invariant-loop-slot : goal.invariant-loop-slot
 invariant-loop-slot l =
-    (l.slot ≤ l.slots) × (l.found ≡ set_of l.slot (slot_open (entry_at l.tables) l.choosers l.from l.fills l.least l.sums l.most l.need l.spare l.domain))
+    (l.slot ≤ l.slots) × (l.found ≡ set_of l.slot (slot_open (entry_at l.tables) l.choosers l.from l.slot_max l.least l.slot_min l.most l.need l.spare l.domain))
 
 abbrev pub decreases-loop-slot : goal.decreases-loop-slot
 decreases-loop-slot l =

@@ -9,4 +9,4 @@ returns-then-bounds c =
 pub returns : goal.returns
 returns c =
     let b = c.bounds_of-bounds.ensures in
-    limits-by _ _ _ _ _ _ _ b.broken_value c.if-bounds.false b.wants_value.0 b.wants_value.1 c.narrow_by_tables.ensures c.narrow_by_counts.ensures
+    limits-by _ _ _ _ _ _ _ b.broken_value c.if-bounds.false b.wants_value b.rooms_value c.narrow_by_tables.ensures c.narrow_by_counts.ensures

@@ -10,4 +10,4 @@ returns c =
     let u = c.limit_by_rows.ensures.under_after in
     let f = c.least_counts-least.ensures in
     let l = c.limit_by_rows.ensures.least_after in
-    (broken-is _ _ _ p.0 p.1 _ s _ _ n u _ _ _ _ _ f l _ c.some_crossed.ensures, (wants_are _ _ _ p.0 p.1 _ s _ _ n u _ _ _ _ _ f l _ c.each_beyond.ensures, rooms_are _ _ _ p.0 p.1 _ s _ _ n u _ c.each_beyond-2.ensures))
+    record { broken_value = broken-is _ _ _ p.0 p.1 _ s _ _ n u _ _ _ _ _ f l _ c.some_crossed.ensures; wants_value = wants_are _ _ _ p.0 p.1 _ s _ _ n u _ _ _ _ _ f l _ c.each_beyond.ensures; rooms_value = rooms_are _ _ _ p.0 p.1 _ s _ _ n u _ c.each_beyond-2.ensures }

@@ -10,7 +10,7 @@ loop-table-init c =
 
 pub fill_table-requires : goal.fill_table-requires
 fill_table-requires c =
-    record { choices_bound = (c.requires.0, c.loop-table-test.true); tables_len = c.loop-table.invariant.1.size }
+    ((c.requires.0, c.loop-table-test.true), c.loop-table.invariant.1.size)
 
 pub loop-table-preserved : goal.loop-table-preserved
 loop-table-preserved c =

@@ -7,7 +7,7 @@ use Rattle.list_twins.proofs.twins.alike_slots.Given as goal
 
 abbrev pub invariant-loop-other : goal.invariant-loop-other
 invariant-loop-other l =
-    (l.other ≤ l.slots) × (l.set ≡ set_of l.other (alike l.choosers l.names l.sums l.fills l.slot))
+    (l.other ≤ l.slots) × (l.set ≡ set_of l.other (alike l.choosers l.names l.slot_min l.slot_max l.slot))
 
 abbrev pub decreases-loop-other : goal.decreases-loop-other
 decreases-loop-other l =

@@ -6,4 +6,4 @@ use Rattle.list_weights.proofs.lightest.parts_of.Goals as goal
 pub truncating_f64_to_u64-requires : goal.truncating_f64_to_u64-requires
 unfolding of_bits neg
 truncating_f64_to_u64-requires c =
-    (subst T (sym c.if-parts.true) tt, subst T (sym c.if-parts-2.true) tt)
+    record { lower_bound = subst T (sym c.if-parts.true) tt; upper_bound = subst T (sym c.if-parts-2.true) tt }

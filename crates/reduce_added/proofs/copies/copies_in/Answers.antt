@@ -1,5 +1,4 @@
 use mathlib.Core.Path.{sym, ◌∙◌}
-use Prim.Native.Nat.{◌-◌}
 use Rattle.base_lists.proofs.Stores.{each_start, each_part, each-end, each-count, stored-none}
 use Rattle.reduce_added.proofs.Copying.{copies_none, copies_some}
 use Rattle.reduce_added.proofs.copies.copies_in.Goals as goal

@@ -1,8 +1,41 @@
-use Prim.Native.Nat.{◌-◌}
-use Rattle.reduce_added.specs.Copies.{copies_in}
-use Rattle.reduce_added.proofs.Cutting.{Turn, turn}
+use Rattle.base_lists.proofs.Cut.{cuts_start, cuts_end}
+use Rattle.reduce_added.proofs.Cutting.{turn}
+use borrow.Author.Rules.{rules}
 use Rattle.reduce_added.proofs.copies.copies_of.Goals as goal
 
--- the turn that has read the end of its group
-group : (c : goal.After-wide-end invariant-loop decreases-loop) → let a = c.args in let l = c.loop-i in Turn (copies_in a.row) a.ends.now a.members.now a.free.now a.from l.free l.at l.start l.i c.wide-end.result
-group c = let l = c.loop-i in turn _ _ _ l.start l.i _ c.wide-end.ensures.0 c.loop-i-test.true l.invariant
+pub loop-i-init : goal.loop-i-init
+loop-i-init c = cuts_start _ _ _ _ _ c.requires.0
+
+pub offset_bounds-members-start : goal.offset_bounds-members-start
+offset_bounds-members-start c =
+    let l = c.loop-i in
+    let k = (turn _ _ _ l.start l.i _ c.wide-end.ensures.0 c.loop-i-test.true l.invariant).starts-within in
+    search rules
+
+pub slice_bounds-copies_in-count : goal.slice_bounds-copies_in-count
+slice_bounds-copies_in-count c =
+    let l = c.loop-i in
+    (turn _ _ _ l.start l.i _ c.wide-end.ensures.0 c.loop-i-test.true l.invariant).rises
+
+pub slice_bounds-copies_in-start : goal.slice_bounds-copies_in-start
+slice_bounds-copies_in-start c =
+    let l = c.loop-i in
+    (turn _ _ _ l.start l.i _ c.wide-end.ensures.0 c.loop-i-test.true l.invariant).rises
+
+pub slice_bounds-copies_in-end : goal.slice_bounds-copies_in-end
+slice_bounds-copies_in-end c =
+    let l = c.loop-i in
+    (turn _ _ _ l.start l.i _ c.wide-end.ensures.0 c.loop-i-test.true l.invariant).ends-within
+
+pub copies_in-at-requires : goal.copies_in-at-requires
+copies_in-at-requires c =
+    let l = c.loop-i in
+    (turn _ _ _ l.start l.i _ c.wide-end.ensures.0 c.loop-i-test.true l.invariant).counts _ c.requires.1
+
+pub loop-i-preserved : goal.loop-i-preserved
+loop-i-preserved c =
+    let l = c.loop-i in
+    (turn _ _ _ l.start l.i _ c.wide-end.ensures.0 c.loop-i-test.true l.invariant).next c.copies_in-at.ensures
+
+pub returns : goal.returns
+returns c = cuts_end _ _ _ c.loop-i.start c.loop-i.i c.loop-i-test.false c.loop-i.invariant

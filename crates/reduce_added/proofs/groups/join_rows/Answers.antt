@@ -1,4 +1,3 @@
-use Prim.Native.Nat.{◌-◌}
 use native.Mathlib.Omega.{arith}
 use Rattle.reduce_added.proofs.Joining.{joins-start, joins-next, joins-end}
 use borrow.Author.Rules.{rules}

@@ -1,4 +1,3 @@
-use Prim.Native.Nat.{◌-◌}
 use native.Mathlib.Omega.{arith}
 use Rattle.base_lists.proofs.Stores.{each_start, each_part, each-end, each-room}
 use Rattle.reduce_added.specs.Pairs.{mandatory_one}

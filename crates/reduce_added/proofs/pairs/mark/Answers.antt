@@ -1,5 +1,4 @@
 use mathlib.Core.Path.{refl, ◌∙◌}
-use Prim.Native.Nat.{◌-◌}
 use native.Mathlib.Omega.{arith}
 use Rattle.reduce_added.proofs.Pairing.{pass-start, pass_step, pass-end}
 use borrow.Author.Rules.{rules}

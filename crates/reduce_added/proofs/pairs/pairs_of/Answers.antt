@@ -1,4 +1,3 @@
-use Prim.Native.Nat.{◌-◌}
 use native.Mathlib.Omega.{arith}
 use Rattle.base_lists.proofs.Stores.{stores-start, stores-end}
 use Rattle.reduce_added.proofs.Pairing.{pairs-part, pairs-room, pairs_end}

@@ -1,10 +1,8 @@
 use mathlib.Core.Path.{◌∙◌, ap}
-use Prim.Native.Nat.{◌-◌}
 use native.Mathlib.Omega.{arith}
 use lib.ListN.{set, drop_of_length-le}
 use Rattle.base_lists.proofs.Stores.{stores-start, stores_one, stores-end}
 use Rattle.base_lists.proofs.Keep.{map_at}
-use Rattle.reduce_added.specs.Pairs.{pair_row}
 use Rattle.reduce_added.proofs.Pairing.{pair-row-is}
 use borrow.Author.Rules.{rules}
 use Rattle.reduce_added.proofs.pairs.pairs_with.Goals as goal

@@ -1,5 +1,4 @@
 use mathlib.Core.Path.{◌≡◌, refl, sym, ◌∙◌}
-use Prim.Native.Nat.{◌-◌}
 use native.Mathlib.Omega.{arith}
 use Rattle.reduce_added.proofs.Pairing.{choosers-none, choosers-countable, choosers-part}
 use borrow.Author.Rules.{rules}

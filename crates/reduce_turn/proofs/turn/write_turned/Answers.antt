@@ -1,4 +1,3 @@
-use Prim.Native.Nat.{◌-◌}
 use Rattle.base_lists.proofs.Stores.{each_start, each_part, each-end, each-count}
 use Rattle.reduce_turn.specs.Turn.{turned_one}
 use Rattle.reduce_turn.proofs.turn.write_turned.Goals as goal

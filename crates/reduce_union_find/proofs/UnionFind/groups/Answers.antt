@@ -1,17 +1,12 @@
 -- Each way out of `groups` is a law of `Grouping`.
-use mathlib.Core.Path.{◌≡◌, sym, ap, ◌∙◌}
-use lib.ListN.{length}
+use mathlib.Core.Path.{sym, ap, ◌∙◌}
 use Rattle.reduce_union_find.specs.Groups.{groups_written}
 use Rattle.reduce_union_find.proofs.Grouping.{groups_untaken, groups-members, groups-ends, groups-wrote, roots_are, taken_climbs}
 use borrow.Author.Rules.{rules}
 use Rattle.reduce_union_find.proofs.UnionFind.groups.Goals as goal
 
--- the arrays of the record are 64 long
-wide : (c : goal.Start) → (length c.args.self.parents ≡ 64) × (length c.args.self.heights ≡ 64)
-wide c = (search rules, search rules)
-
 pub is_taken-requires : goal.is_taken-requires
-is_taken-requires c = wide c
+is_taken-requires c = (search rules, search rules)
 
 pub returns-then-not-is_taken : goal.returns-then-not-is_taken
 returns-then-not-is_taken c = sym (groups_untaken _ _ _ _ (sym c.is_taken.ensures ∙ c.if-not-is_taken.true))
@@ -23,7 +18,7 @@ pub returns-then-ends-ne64 : goal.returns-then-ends-ne64
 returns-then-ends-ne64 c = sym (groups-ends _ _ _ _ (sym c.is_taken.ensures ∙ c.if-not-is_taken.false) c.if-ends-ne64.true)
 
 pub write_all-requires : goal.write_all-requires
-write_all-requires c = (taken_climbs _ _ (wide c).0 (sym c.is_taken.ensures ∙ c.if-not-is_taken.false), c.if-members-ne64.false, c.if-ends-ne64.false)
+write_all-requires c = (taken_climbs _ _ (search rules) (sym c.is_taken.ensures ∙ c.if-not-is_taken.false), c.if-members-ne64.false, c.if-ends-ne64.false)
 
 pub shape_of-members : goal.shape_of-members
 shape_of-members c = c.write_all.auto.members

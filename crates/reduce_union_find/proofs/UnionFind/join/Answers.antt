@@ -1,18 +1,13 @@
 -- Each way out of `join` is a law of `Linking`.
-use mathlib.Core.Path.{◌≡◌, sym, ap₂, ◌∙◌}
-use lib.ListN.{length}
+use mathlib.Core.Path.{sym, ap₂, ◌∙◌}
 use Rattle.reduce_union_find.specs.State.{linked}
 use Rattle.reduce_union_find.proofs.Root.{root_is, roots_fit, taken-ends}
 use Rattle.reduce_union_find.proofs.Linking.{join_untaken, join_left_out, join_right_out, join_links}
 use borrow.Author.Rules.{rules}
 use Rattle.reduce_union_find.proofs.UnionFind.join.Goals as goal
 
--- the arrays of the record are 64 long
-wide : (c : goal.Start) → (length c.args.self.parents ≡ 64) × (length c.args.self.heights ≡ 64)
-wide c = (search rules, search rules)
-
 pub is_taken-requires : goal.is_taken-requires
-is_taken-requires c = wide c
+is_taken-requires c = (search rules, search rules)
 
 pub returns-then-not-is_taken : goal.returns-then-not-is_taken
 returns-then-not-is_taken c =
@@ -25,10 +20,10 @@ pub returns-then-right-choices : goal.returns-then-right-choices
 returns-then-right-choices c = c.refused-then-right-choices.ensures ∙ sym (join_right_out _ _ _ _ c.if-right-choices.true)
 
 pub climb-left_root-requires : goal.climb-left_root-requires
-climb-left_root-requires c = ((wide c).0, taken-ends _ _ (sym c.is_taken.ensures ∙ c.if-not-is_taken.false) _ c.if-left-choices.false)
+climb-left_root-requires c = (search rules, taken-ends _ _ (sym c.is_taken.ensures ∙ c.if-not-is_taken.false) _ c.if-left-choices.false)
 
 pub climb-right_root-requires : goal.climb-right_root-requires
-climb-right_root-requires c = ((wide c).0, taken-ends _ _ (sym c.is_taken.ensures ∙ c.if-not-is_taken.false) _ c.if-right-choices.false)
+climb-right_root-requires c = (search rules, taken-ends _ _ (sym c.is_taken.ensures ∙ c.if-not-is_taken.false) _ c.if-right-choices.false)
 
 pub link-requires : goal.link-requires
 link-requires c =

@@ -1,8 +1,6 @@
-use borrow.Author.Rules.{rules}
-use Prim.Native.Nat.{◌-◌}
 use native.Mathlib.Omega.{arith}
 use Rattle.roster_check.specs.Roster.{highest_met}
-use Rattle.roster_check.proofs.SeatLaws.{part_at, part_end, part_small, next_start}
+use Rattle.roster_check.proofs.SeatLaws.{part_at, part_small, next_start}
 use Rattle.roster_check.proofs.HighestLaws.{highest-none, highest-more, highest-done, chooser-highest, from-few}
 use Rattle.roster_check.proofs.highest.highest_met.Goals as goal
 
@@ -30,7 +28,3 @@ pub returns : goal.returns
 unfolding highest_met
 returns c =
     highest-done _ _ _ c.loop-chooser.invariant.0 c.loop-chooser-test.false c.loop-chooser.invariant.3
-
--- UNMATCHED slice-bounds-highest-of-end
--- slice-bounds-highest-of-end c =
---     search (rules, part_end _ _ _ _ c.loop-chooser.invariant.1 _ c.requires.0 c.loop-chooser-test.true)

@@ -1,5 +1,4 @@
 use borrow.Author.Rules.{rules}
-use Prim.Native.Nat.{◌-◌}
 use native.Mathlib.Omega.{arith}
 use Rattle.roster_check.proofs.HighestLaws.{highest-none, highest-more, highest-done, met_at}
 use Rattle.roster_check.proofs.highest.highest_of.Goals as goal

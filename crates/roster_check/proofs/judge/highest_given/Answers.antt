@@ -1,6 +1,5 @@
 use borrow.Author.Rules.{rules}
 use mathlib.Core.Path.{refl}
-use Prim.Native.Nat.{◌-◌}
 use native.Mathlib.Omega.{arith}
 use Rattle.roster_check.proofs.HighestLaws.{highest-none, highest-more, highest-done}
 use Rattle.roster_check.proofs.judge.highest_given.Goals as goal

@@ -1,6 +1,5 @@
 use borrow.Author.Rules.{rules}
 use mathlib.Core.Path.{sym, ◌∙◌}
-use Prim.Native.Nat.{◌-◌}
 use native.Mathlib.Omega.{arith}
 use Rattle.roster_check.proofs.JudgeLaws.{list-start, list-next, list_stops, list-good}
 use Rattle.roster_check.proofs.judge.judge_list.Goals as goal

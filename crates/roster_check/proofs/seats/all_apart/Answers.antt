@@ -1,10 +1,6 @@
-use borrow.Author.Rules.{rules}
-use mathlib.Core.Bool.{true}
-use Prim.Native.Nat.{◌-◌}
 use native.Mathlib.Omega.{arith}
 use Rattle.base_lists.proofs.Through.{all_none, all_done}
-use Rattle.roster_rows.specs.Seats.{slots_apart}
-use Rattle.roster_check.proofs.SeatLaws.{part_at, part_end, part_small, next_start, one-meets, none-meets}
+use Rattle.roster_check.proofs.SeatLaws.{part_at, part_small, next_start, one-meets, none-meets}
 use Rattle.roster_check.proofs.seats.all_apart.Goals as goal
 
 pub loop-chooser-init : goal.loop-chooser-init
@@ -26,7 +22,3 @@ loop-chooser-preserved c =
 pub returns : goal.returns
 returns c =
     all_done _ _ _ c.loop-chooser.invariant.0 c.loop-chooser-test.false c.loop-chooser.invariant.2
-
--- UNMATCHED slice-bounds-slots-apart-end
--- slice-bounds-slots-apart-end c =
---     search (rules, part_end _ _ _ _ c.loop-chooser.invariant.1 _ c.requires c.loop-chooser-test.true)

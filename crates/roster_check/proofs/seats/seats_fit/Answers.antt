@@ -1,6 +1,4 @@
 use borrow.Author.Rules.{rules}
-use mathlib.Core.Bool.{true}
-use Prim.Native.Nat.{◌-◌}
 use native.Mathlib.Omega.{arith}
 use Rattle.base_lists.proofs.Through.{all_none, all_done}
 use Rattle.roster_check.proofs.SeatLaws.{seat-fails, seat-fits}

@@ -1,8 +1,7 @@
 use borrow.Author.Rules.{rules}
 use mathlib.Core.Path.{sym, ◌∙◌}
-use Prim.Native.Nat.{◌-◌}
 use Rattle.plan_check.proofs.CheckLaws.{rest-start, rest-next, rest-fails, rest-none}
-use Rattle.roster_rows.specs.Rows.{keeps_assignment_row, keeps_assignment_rows}
+use Rattle.roster_rows.specs.Rows.{keeps_assignment_rows}
 use Rattle.roster_rows.proofs.assignment.keeps_each_row.Goals as goal
 
 pub loop-i-init : goal.loop-i-init

@@ -1,10 +1,7 @@
 use borrow.Author.Rules.{rules}
 use mathlib.Core.Path.{◌∙◌}
-use mathlib.Core.Bool.{true}
-use Prim.Native.Nat.{◌-◌}
 use native.Mathlib.Omega.{arith}
 use Rattle.base_lists.proofs.Through.{all_none, all_done}
-use Rattle.roster_rows.specs.Cells.{cells_of}
 use Rattle.roster_rows.proofs.CellLaws.{cells-short}
 use Rattle.roster_rows.proofs.KindLaws.{choices-equal, choices_differ, choices-agree}
 use Rattle.roster_rows.proofs.assignment.same_choices.Goals as goal

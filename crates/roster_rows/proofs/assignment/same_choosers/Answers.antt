@@ -1,9 +1,6 @@
 use borrow.Author.Rules.{rules}
 use mathlib.Core.Path.{◌∙◌}
-use mathlib.Core.Bool.{true}
-use Prim.Native.Nat.{◌-◌}
 use native.Mathlib.Omega.{arith}
-use Rattle.base_lists.specs.Group.{times_in}
 use Rattle.base_lists.proofs.Through.{all_none, all_done}
 use Rattle.roster_rows.proofs.KindLaws.{choosers-equal, choosers_differ, choosers-agree}
 use Rattle.roster_rows.proofs.assignment.same_choosers.Goals as goal

@@ -1,7 +1,6 @@
 -- The part of the roster that is handed out is the chooser's window of it.
 use native.Mathlib.Omega.{arith}
-use Rattle.roster_rows.proofs.CellLaws.{past-part, cells-part, cells-small, cells-end}
-use borrow.Author.Rules.{rules}
+use Rattle.roster_rows.proofs.CellLaws.{past-part, cells-part, cells-small}
 use Rattle.roster_rows.proofs.cells.cells_of.Goals as goal
 
 pub returns-then-choosers-chooser : goal.returns-then-choosers-chooser
@@ -15,6 +14,3 @@ overflow_add-end c = omega (arith, cells-small _ _ _ _ c.requires c.if-choosers-
 
 pub returns : goal.returns
 returns c = cells-part _ _ _
-
--- UNMATCHED slice-bounds-result-end-2
--- slice-bounds-result-end-2 c = search (rules, cells-end _ _ _ _ c.requires c.if-choosers-chooser.false)

@@ -1,5 +1,4 @@
 use mathlib.Core.Path.{refl}
-use Prim.Native.Nat.{◌-◌}
 use native.Mathlib.Omega.{arith}
 use Rattle.roster_rows.proofs.TallyLaws.{tallying_start, tallying_room, tallying_next, tallying_done}
 use Rattle.roster_rows.proofs.cells.tally.Goals as goal

@@ -1,4 +1,3 @@
-use Prim.Native.Nat.{◌-◌}
 use native.Mathlib.Omega.{arith}
 use Rattle.roster_rows.proofs.CellLaws.{times_step, times_whole}
 use Rattle.roster_rows.proofs.cells.times_in.Goals as goal

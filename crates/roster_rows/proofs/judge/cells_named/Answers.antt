@@ -1,8 +1,6 @@
 use borrow.Author.Rules.{rules}
 use mathlib.Core.Path.{sym, ◌∙◌}
-use Prim.Native.Nat.{◌-◌}
 use Rattle.plan_check.proofs.CheckLaws.{rest-start, rest-next, rest-fails, rest-none}
-use Rattle.roster_rows.specs.Seats.{names_scheduled}
 use Rattle.roster_rows.proofs.judge.cells_named.Goals as goal
 
 pub loop-i-init : goal.loop-i-init

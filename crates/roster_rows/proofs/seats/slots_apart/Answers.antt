@@ -1,4 +1,3 @@
-use Prim.Native.Nat.{◌-◌}
 use Rattle.roster_rows.proofs.ApartLaws.{meeting_start, meeting_again, meeting_next, meeting_done}
 use Rattle.roster_rows.proofs.seats.slots_apart.Goals as goal
 

@@ -1,0 +1,29 @@
+use Rattle.base_lists.proofs.Stores.{each_start, each_part, each-end}
+use Rattle.text_lines.specs.PlansLines.{place_text}
+use Rattle.text_lines.proofs.PutLaws.{each_fits}
+use Rattle.text_lines.proofs.plans_lines.put_places.Goals as goal
+
+pub loop-i-init : goal.loop-i-init
+loop-i-init c =
+    let a = c.args in
+    (c.requires, each_start place_text a.plan.now a.text.now a.at)
+
+pub put_place-next-requires : goal.put_place-next-requires
+put_place-next-requires c =
+    let a = c.args in
+    let l = c.loop-i in
+    each_fits place_text a.plan.now a.text.now a.at l.i 0 l.invariant.0 l.invariant.1 c.loop-i-test.true
+
+pub loop-i-preserved : goal.loop-i-preserved
+loop-i-preserved c =
+    let a = c.args in
+    let l = c.loop-i in
+    (l.invariant.0, each_part place_text a.plan.now l.i 0 c.loop-i-test.true l.invariant.1 c.put_place-next.ensures)
+
+pub shape_of-text : goal.shape_of-text
+shape_of-text c =
+    c.loop-i.invariant.1.1.same
+
+pub returns : goal.returns
+returns c =
+    each-end place_text c.args.plan.now c.loop-i.i c.loop-i-test.false c.loop-i.invariant.1

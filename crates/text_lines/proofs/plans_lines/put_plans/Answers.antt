@@ -1,0 +1,47 @@
+use Prim.Native.Nat.{◌+◌, ◌*◌, ◌≤◌}
+use native.Mathlib.Omega.{arith}
+use borrow.Author.Rules.{rules}
+use lib.ListN.{length}
+use Rattle.text_lines.proofs.PlanLaws.{plan-within, lines_start, lines_fits, lines_part, lines_end}
+use Rattle.text_lines.proofs.plans_lines.put_plans.Goals as goal
+
+pub loop-i-init : goal.loop-i-init
+loop-i-init c =
+    let a = c.args in
+    let p = c.requires in
+    (p.fact_1, p.fact_2, lines_start a.first a.count a.choices a.page.now a.text.now a.at p.fact_3)
+
+pub overflow_mul-from : goal.overflow_mul-from
+overflow_mul-from c =
+    let a = c.args in
+    let l = c.loop-i in
+    let w : l.i * a.choices + a.choices ≤ length a.page.now = plan-within a.count a.choices _ l.i c.loop-i-test.true l.invariant.0 in
+    search rules
+
+pub overflow_add-first : goal.overflow_add-first
+overflow_add-first c =
+    omega (arith, c.loop-i.invariant.1)
+
+pub overflow_add-from : goal.overflow_add-from
+overflow_add-from c =
+    let a = c.args in
+    let l = c.loop-i in
+    let w : l.i * a.choices + a.choices ≤ length a.page.now = plan-within a.count a.choices _ l.i c.loop-i-test.true l.invariant.0 in
+    search rules
+
+pub put_plan-next-requires : goal.put_plan-next-requires
+put_plan-next-requires c =
+    lines_fits _ _ _ _ c.loop-i.invariant.2 c.loop-i-test.true
+
+pub loop-i-preserved : goal.loop-i-preserved
+loop-i-preserved c =
+    let l = c.loop-i in
+    (l.invariant.0, l.invariant.1, lines_part _ _ _ _ l.invariant.2 c.loop-i-test.true c.put_plan-next.ensures)
+
+pub shape_of-text : goal.shape_of-text
+shape_of-text c =
+    c.loop-i.invariant.2.stores.same
+
+pub returns : goal.returns
+returns c =
+    lines_end _ _ _ _ c.loop-i.invariant.2 c.loop-i-test.false
