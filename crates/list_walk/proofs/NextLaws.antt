@@ -43,7 +43,8 @@ next-bits : (k left rest : ℕ) → left ≤ k → next_has (left - 1) rest left
 unfolding next_has count_trailing_zeros
 next-bits k zero rest h = omega arith
 next-bits zero (suc left) rest h = absurd (omega arith)
-next-bits (suc k) (suc left) rest h = rw m (go (rest % 2) refl (mod-lt rest (omega arith)) (next-bits k left (rest / 2) (omega arith)))
+next-bits (suc k) (suc left) rest h =
+    ap (λ (x : ℕ). next_has x rest (suc left)) m ∙ go (rest % 2) refl (mod-lt rest (omega arith)) (next-bits k left (rest / 2) (omega arith))
   where
     m : suc left - 1 ≡ left
     m = omega arith
@@ -68,7 +69,8 @@ next-zeros slots domain (suc left) h few =
     rw p
     (ap (λ (k : ℕ). next_has k domain (suc left)) e
     ∙ next_shift (slots - left) left domain (suc left) (omega arith)
-    ∙ (rw m at (next-bits 64 (suc left) (domain / 2 ^ (slots - left)) (omega (arith, few, h)))))
+    ∙ ap (λ (k : ℕ). next_has k (domain / 2 ^ (slots - left)) (suc left)) (sym m)
+    ∙ next-bits 64 (suc left) (domain / 2 ^ (slots - left)) (omega (arith, few, h)))
 
 -- ---- the ways through next_open
 

@@ -40,7 +40,7 @@ pub search-settles : (given : Given) (settings : Settings) (before : List ℕ) �
     → (answer : Settled) (after : List ℕ) → outcome (done answer) after ≡ search_of given settings before
     → SearchSettles given settings.total_budget answer after
 search-settles given settings before full own answer after e =
-    settles_so given (not-refused given settings before answer after e).day.in-range.day.slots settings.total_budget answer after
+    settles_so given (not-refused given settings before answer after e).day.in_range.day.slots settings.total_budget answer after
     (demand given settings before full own answer after e)
 
 pub day-settles : (counts : PlanCounts) (mins maxs optional levels preferences rows orders draws : List ℕ) (settings : Settings) (before : List ℕ) → settings.full ≡ true
@@ -49,5 +49,5 @@ pub day-settles : (counts : PlanCounts) (mins maxs optional levels preferences r
 day-settles counts mins maxs optional levels preferences rows orders draws settings before full answer after e =
     let given = given_own counts mins maxs optional levels preferences rows orders draws in
     let c = called counts mins maxs optional levels preferences rows orders draws settings before e in
-    settles_so given (not-refused given settings before answer after c.searched).day.in-range.day.slots settings.total_budget answer after
+    settles_so given (not-refused given settings before answer after c.searched).day.in_range.day.slots settings.total_budget answer after
     (call_settles counts mins maxs optional levels preferences rows orders draws settings before c full)

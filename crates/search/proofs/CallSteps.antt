@@ -137,7 +137,7 @@ module _ (given : Given) (settings : Settings) (before : List ℕ) where
         let starts = eqb (length given.map.starts) 64 in
         let lengths = eqb (length given.map.lengths) 64 in
         let numbers : length given.map.numbers ≡ 10240 = eqb-true _ _ (and_right (starts && lengths) (eqb (length given.map.numbers) 10240) f.full) in
-        (omega arith, omega (arith, f.whole, f.in-range.day.rows))
+        (omega arith, omega (arith, f.whole, f.in_range.day.rows))
 
     -- the analysis refuses no day
     module _ (masks levels : List ℕ) (m : 1024 ≡ length masks) (l : 1024 ≡ length levels) where
@@ -145,7 +145,7 @@ module _ (given : Given) (settings : Settings) (before : List ℕ) where
       unfolding analysis.day_judged sets.sets_counts_in_range sets.sets_lengths_fit pools_full levels_in_range
       analysis_good =
           let f = day_facts in
-          rw (le-leb _ _ f.in-range.day.choices, le-leb _ _ f.in-range.day.slots, le-leb _ _ f.in-range.day.choosers, le-leb _ _ f.in-range.level, le-leb _ _ f.in-range.levels, eq-eqb _ _ f.mins, eq-eqb _ _ f.levels, eq-eqb _ _ f.preferences, eq-eqb _ _ (sym m), eq-eqb _ _ (sym l), f.rise, f.at-most-last)
+          rw (le-leb _ _ f.in_range.day.choices, le-leb _ _ f.in_range.day.slots, le-leb _ _ f.in_range.day.choosers, le-leb _ _ f.in_range.level, le-leb _ _ f.in_range.levels, eq-eqb _ _ f.mins, eq-eqb _ _ f.levels, eq-eqb _ _ f.preferences, eq-eqb _ _ (sym m), eq-eqb _ _ (sym l), f.rise, f.at-most-last)
 
       analysis_is : analysis_of (sets_day given) settings.analysis (pools masks levels) ≡ analyzed_of (sets_day given) settings.analysis
       unfolding analysis_of
@@ -191,11 +191,11 @@ module _ (given : Given) (settings : Settings) (before : List ℕ) where
             let t = lent-keeps given l in
             rw c
             (record {
-              shapes = rw (le-leb _ _ k.in-range.day.choices, le-leb _ _ k.in-range.day.slots) k.entries;
+              shapes = rw (le-leb _ _ k.in_range.day.choices, le-leb _ _ k.in_range.day.slots) k.entries;
               few-numbers = few-looked.0;
               short-whole = few-looked.1;
               orders-keep = t.orders;
-              few-levels = rw (k.levels, le-leb _ _ k.in-range.level, le-leb _ _ k.in-range.levels);
+              few-levels = rw (k.levels, le-leb _ _ k.in_range.level, le-leb _ _ k.in_range.levels);
               levels-rise = k.rise;
               few-sets = rw f.counted (few-sets (sets_of (sets_day given) settings.analysis) masks levels f.pooled m);
               masks-full = sym m;

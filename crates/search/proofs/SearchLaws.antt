@@ -130,7 +130,7 @@ module _ (given : Given) (settings : Settings) (before : List ℕ) {f : Figures}
       go (found left pass limit places) q s p =
           record {
             passes = ap (feasible (plan_day given)) (sym p) ∙ found-sound given settings q;
-            whole = ap length (sym p) ∙ plan-length given settings limit pass places (answered-day given settings before e).in-range.day.choices;
+            whole = ap length (sym p) ∙ plan-length given settings limit pass places (answered-day given settings before e).in_range.day.choices;
           }
       go (none left pass limit) q s p = let z : ◌≡◌ {A = ℕ} 0 1 = ap is_plan s in absurd (omega arith)
       go (out pass limit) q s p = let z : ◌≡◌ {A = ℕ} 0 1 = ap is_plan s in absurd (omega arith)
@@ -149,5 +149,5 @@ module _ (given : Given) (settings : Settings) (before : List ℕ) {f : Figures}
       let lengths : lengths_fit given.counts.choices given.mins given.maxs given.optional after ≡ true =
       sym (plan-decides given.counts.choices given.mins given.maxs given.optional after k.mins k.maxs k.optional) ∙ eq-eqb _ _ w.whole in
       let b : good ≡ before_cells (plan_day given) after = sym k.rows-keep ∙ before-rows (plan_day given) after k.counts lengths k.rows in
-      let s : is_feasible (plan_day given) after ≡ true = rw (le-leb _ _ k.in-range.day.choices, le-leb _ _ k.in-range.day.slots, lengths) w.passes in
+      let s : is_feasible (plan_day given) after ≡ true = rw (le-leb _ _ k.in_range.day.choices, le-leb _ _ k.in_range.day.slots, lengths) w.passes in
       check-answers (plan_day given) after true b (good-cells given.counts.slots given.optional after (cells_spared (plan_day given) after b s) l.flags) s

@@ -37,4 +37,4 @@ pub never-map : (counts : PlanCounts) (mins maxs optional levels preferences row
 never-map counts mins maxs optional levels preferences rows before d few =
     let k : DayKeeps (given_with 0 counts mins maxs optional levels preferences rows [] []) before = day-keeps _ before d in
     ap (λ (n : ℕ). map_keeps counts.choices n (length (own_numbers rows counts.choices)) (own_pools rows counts.choices) (whole_of rows)) (sym k.rows)
-    ∙ own-keeps rows counts.choices k.in-range.day.choices few (whole_of rows) (whole-keeps rows)
+    ∙ own-keeps rows counts.choices k.in_range.day.choices few (whole_of rows) (whole-keeps rows)

@@ -68,8 +68,8 @@ module _ (given : Given) (settings : Settings) (before : List ℕ) (day : DayKee
       let counts = row_counts given.counts in
       let made = own-made counts given.rows own.pools.starts own.pools.lengths own.pools.numbers own.written in
       record {
-        choices_in = day.in-range.day.choices;
-        slots_in = day.in-range.day.slots;
+        choices_in = day.in_range.day.choices;
+        slots_in = day.in_range.day.slots;
         arranged = permutation_arranged given.counts.choices (order_of given pass)
             (pass_permutation given.counts.choices given.orders (λ choice. get_or (rows_counted given) choice 0) pass lent.orders);
         own-rows = made-looked made given.whole;
@@ -81,7 +81,7 @@ module _ (given : Given) (settings : Settings) (before : List ℕ) (day : DayKee
       → GoodPlan (plan_day given) (plan_of (lent_at given settings limit pass) places)
   unfolding pass_at lent_at
   pass-sound limit pass turns draw left places draw' e =
-      found-good (lent_at given settings limit pass) turns draw day.in-range.day.choices left places draw' e
+      found-good (lent_at given settings limit pass) turns draw day.in_range.day.choices left places draw' e
 
   -- a full pass at the last level that ends without a plan: there is no good one
   pub pass_complete : LentKeeps given → OwnMap given → settings.full ≡ true → (pass turns draw left draw' : ℕ)

@@ -132,7 +132,7 @@ module _ (given : Given) (settings : Settings) (before : List ℕ) (full : setti
       → Says (λ limit pass places. GoodPlan (plan_day given) (plan_of (lent_at given settings limit pass) places)) ((list : List ℕ) → GoodPlan (plan_day given) list → ⊥) (Unit {0}) ending
       → Settles given settings.total_budget (settled_by settings.total_budget ending) (plan_left given settings before ending)
   by_ending (found left pass limit places) e says =
-      let such = good_such given day.in-range.day.slots (plan_of (lent_at given settings limit pass) places) says in
+      let such = good_such given day.in_range.day.slots (plan_of (lent_at given settings limit pass) places) says in
       record {
         plan-is = λ figures q. such;
         none_is = λ figures q. absurd (plan-not-none _ figures q);

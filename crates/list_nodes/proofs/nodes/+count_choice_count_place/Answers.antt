@@ -116,13 +116,3 @@ pub count_place-returns : goal.count_place-returns
 count_place-returns t c =
     let s = c in
     counted-slot _ _ _ _ _ _ _ _ s.requires.1 c.if-slot-slots.false c.wide_word.ensures.0 c.if-choosers-after.false c.count_choice-2.ensures (c.if-not-count_choice.false) c.count_place-2.ensures
-
--- UNMATCHED bounds-1-if2
--- bounds-1-if2 t c =
---     let w = c.requires.0 in
---     omega (arith, w.within, w.flags)
-
--- UNMATCHED bounds-1-wide-word
--- bounds-1-wide-word t c =
---     let w = c.requires.0 in
---     omega (arith, w.within)

@@ -43,7 +43,7 @@ pub returns : goal.returns
 returns c =
     opening-made _ _ _ _ _ _ _ _ _ _ _ _ _ _ _ _ _ _ _ _ _ _ _ (sym (c.if-not-opens.false) ∙ c.opens.ensures) c.depth_at-asked.ensures c.open_depth-filled.ensures c.draw_after.ensures
 
--- UNMATCHED slice-bounds-open-depth-end
--- slice-bounds-open-depth-end c =
---     let room = room_of _ _ _ _ _ (sym (c.if-not-opens.false) ∙ c.opens.ensures) in
---     omega (arith, room.few, room.pool-length)
+pub slice_bounds-open_depth-end : goal.slice_bounds-open_depth-end
+slice_bounds-open_depth-end c =
+    let room = room_of _ _ _ _ _ (sym (c.if-not-opens.false) ∙ c.opens.ensures) in
+    omega (arith, room.few, room.pool-length)

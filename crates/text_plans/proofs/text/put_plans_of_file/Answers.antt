@@ -11,7 +11,7 @@ use Rattle.text_day.proofs.FileLaws.{FileRead, pools-full, day_case, refused_cas
 use Rattle.text_plans.proofs.DayLaws.{day_puts, answer-refused}
 use Rattle.text_plans.proofs.CallLaws.{puts_as}
 use Rattle.text_plans.proofs.text.put_plans_of_file.Goals as goal
-use Rattle.text_plans.proofs.text.put_plans_of_file.Goals.{After-given_rows-rows, In-Day, In-Refused}
+use Rattle.text_plans.proofs.text.put_plans_of_file.Goals.{In-Day, In-Refused}
 
 pub returns-then-file-gt-LONGEST_FILE : goal.returns-then-file-gt-LONGEST_FILE
 returns-then-file-gt-LONGEST_FILE c =
@@ -19,20 +19,20 @@ returns-then-file-gt-LONGEST_FILE c =
     let l = answer-refused s.args.file.now s.args.first s.args.room s.args.budget (prepared_long s.args.file.now c.if-file-gt-LONGEST_FILE.true) in
     puts_as (answer.refused _) (refused-is _) l c.put_refusal.ensures
 
--- the pools are lent at their full limits
-full : (c : After-given_rows-rows)
-    → pools_full (parts c.words-mins.result c.words-maxs.result c.bytes-optional.result c.words-levels.result c.preferences-preferences.result c.given_rows-rows.result) ≡ true
-full c =
-    pools-full c.words-mins.result c.words-maxs.result c.bytes-optional.result c.words-levels.result c.preferences-preferences.result c.given_rows-rows.result c.words-mins.ensures.0 c.words-maxs.ensures.0 c.bytes-optional.ensures.0 c.words-levels.ensures.0 c.preferences-preferences.ensures.0 c.given_rows-rows.ensures.0
-
 -- a file that is read fills them
 filled : (c : In-Day)
     → FileRead c.args.file.now c.in-Day.counts (parts c.read_day-read.new.mins c.read_day-read.new.maxs c.read_day-read.new.optional c.read_day-read.new.levels c.read_day-read.new.preferences c.read_day-read.new.rows)
-filled c = day_case c.args.file.now _ (full c.After-given_rows-rows) c.read_day-read.ensures c.in-Day.is
+filled c =
+    -- the pools are lent at their full limits
+    let full = pools-full c.words-mins.result c.words-maxs.result c.bytes-optional.result c.words-levels.result c.preferences-preferences.result c.given_rows-rows.result c.words-mins.ensures.0 c.words-maxs.ensures.0 c.bytes-optional.ensures.0 c.words-levels.ensures.0 c.preferences-preferences.ensures.0 c.given_rows-rows.ensures.0 in
+    day_case c.args.file.now _ full c.read_day-read.ensures c.in-Day.is
 
 -- or it is refused
 unread : (c : In-Refused) → file_judged c.args.file.now ≡ refused (number_of c.in-Refused.why) (carried_by c.in-Refused.why)
-unread c = refused_case c.args.file.now _ (full c.After-given_rows-rows) c.read_day-read.ensures c.in-Refused.is
+unread c =
+    -- the pools are lent at their full limits
+    let full = pools-full c.words-mins.result c.words-maxs.result c.bytes-optional.result c.words-levels.result c.preferences-preferences.result c.given_rows-rows.result c.words-mins.ensures.0 c.words-maxs.ensures.0 c.bytes-optional.ensures.0 c.words-levels.ensures.0 c.preferences-preferences.ensures.0 c.given_rows-rows.ensures.0 in
+    refused_case c.args.file.now _ full c.read_day-read.ensures c.in-Refused.is
 
 pub slice_bounds-mins-end : goal.slice_bounds-mins-end
 slice_bounds-mins-end c =

@@ -1,0 +1,11 @@
+-- The part is as long as asked, and a list that is shorter is all of it.
+use Rattle.std.proofs.Common.{sym, arith, length-take-le, take_all}
+use Rattle.test_cases.proofs.first_words.Goals as goal
+
+pub returns-then-words-n : goal.returns-then-words-n
+returns-then-words-n c =
+    sym (take_all c.args.n c.args.words.now (omega arith))
+
+pub slice_bounds-result-end : goal.slice_bounds-result-end
+slice_bounds-result-end c =
+    sym (length-take-le c.args.n c.args.words.now c.if-words-n.false)
