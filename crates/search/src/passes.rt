@@ -42,10 +42,10 @@ pub(crate) fn passes_from<'a>(
     ensures { let day = day_of counts mins.now maxs.now optional.now rows.now in
         let map = map_of starts.now lengths.now numbers.now in
         let sets = sets_in count masks.now set_levels.now in
-        let ground = ground_of settings.full day map whole.now orders.now
+        let basis = ground_of settings.full day map whole.now orders.now
         levels.now sets draws.now in
         outcome (searched_tells result) plan.new
-        ≡ call_in ground settings.pass_budget settings.total_budget start plan.old }
+        ≡ call_in basis settings.pass_budget settings.total_budget start plan.old }
 {
     let mut limit = start;
     let mut above = levels_up_to(levels, start);
