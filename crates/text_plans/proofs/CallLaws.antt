@@ -7,13 +7,12 @@ use lib.ListN.{length, replicate}
 use Rattle.base_lists.specs.Pool.{pad}
 use Rattle.day_rows.specs.Told.{Told, done, refused, good, Outcome, outcome}
 use Rattle.day_rows.specs.Told as verdict
-use Rattle.day_rows.specs.declared.check.Counts.{Counts}
 use Rattle.day_rows.specs.declared.check.Takes.TheVariants as takes
 use Rattle.day_rows.proofs.CountLaws.{within}
 use Rattle.day_file.specs.FileDay.{row_counts}
 use Rattle.day_file.specs.File.{day_in}
 use Rattle.day_file.specs.Calls.{file_judged}
-use Rattle.text_lines.specs.Put.{Pool, pool, put_at}
+use Rattle.text_lines.specs.Put.{pool, put_at}
 use Rattle.text_lines.specs.PlansLines.{PlansAnswer, answer_text}
 use Rattle.text_lines.specs.Pages.{longest}
 use Rattle.text_lines.proofs.PlansFitLaws.{Modest, answer-fits}

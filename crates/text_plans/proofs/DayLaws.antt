@@ -13,8 +13,7 @@ use Rattle.day_rows.specs.declared.check.Takes.TheVariants as takes
 use Rattle.day_rows.proofs.CountLaws.{within}
 use Rattle.reduce.specs.Reduction.{reduced_rows, search_list}
 use Rattle.day_file.specs.FileDay.{parts, row_counts}
-use Rattle.day_file.specs.File.{counts_in, lists_in, day_in, longest_file}
-use Rattle.day_file.specs.Calls.{file_judged}
+use Rattle.day_file.specs.File.{counts_in, lists_in, longest_file}
 use Rattle.day_file.specs.declared.counts.FileCounts.{FileCounts}
 use Rattle.plan_check.specs.Day.{Day, day_of}
 use Rattle.list_nodes.specs.Judge.{judge_of}

@@ -3,7 +3,7 @@ use mathlib.Core.Path.{◌≡◌, refl, sym, ◌∙◌, ap, subst}
 use mathlib.Core.Bool.{Bool, true, false}
 use mathlib.Core.List.Memᴰ
 use mathlib.Core.List.{List, [], ◌∷◌, ◌++◌, map, flatten, append_assoc, Memᴰ}
-use mathlib.Core.Logic.{◌⊎◌, ⊎_elim}
+use mathlib.Core.Logic.{⊎_elim}
 use Prim.Native.Nat.{ℕ, zero, suc, ◌+◌, ◌-◌, ◌*◌, ◌≤◌, ◌<◌, ◌^◌, min}
 use native.Mathlib.Nat.{mul-le-mul_right, suc-mul, zero-mul}
 use native.Mathlib.Omega.{arith}
@@ -14,14 +14,14 @@ use lib.Seq.{take_at, drop_at, take_all, take-length, sets, sets-eq, length-sets
 use Rattle.base_lists.proofs.Keep.{in_map, in_flat_map, kept_in}
 use Rattle.day_rows.specs.Check.{counts_in_range, rows_judged}
 use Rattle.day_rows.specs.declared.refusal.Refusal.{Refusal}
-use Rattle.day_rows.specs.Told.{Told, done, refused, Verdict, good, unless, and_then}
+use Rattle.day_rows.specs.Told.{Told, done, refused, good, unless, and_then}
 use Rattle.day_rows.proofs.ToldLaws.{refused-not-done, unless-done}
 use Rattle.day_rows.specs.declared.check.Takes.TheVariants as takes
 use Rattle.day_rows.proofs.CountLaws.{within}
 use Rattle.plan_check.specs.Day.{Day}
 use Rattle.plan_check.specs.Check.{flags_judged}
 use Rattle.plan_check.specs.Feasible.{feasible}
-use Rattle.list_nodes.specs.Placements.{slots_from, places, placements, plans, page, total, nodes}
+use Rattle.list_nodes.specs.Placements.{slots_from, places, placements, plans, page, total}
 use Rattle.list_nodes.specs.Judge.{list_lengths_fit, judge_of}
 use Rattle.list_nodes.proofs.Members.{placement_length, sized-plans}
 use Rattle.list_nodes.proofs.PageLaws.{Sized, none, more, page-length}
@@ -30,7 +30,7 @@ use Rattle.list_starts.specs.PageAnswer.{paged_tells}
 use Rattle.list_page.specs.Page.{Fits, refuses, gives}
 use Rattle.list_starts.specs.declared.page_end.Paged.{Paged}
 use Rattle.list_starts.specs.declared.page_end.Paged.TheVariants as paged
-use Rattle.text_lines.specs.Put.{Pool, pool, put_at}
+use Rattle.text_lines.specs.Put.{pool, put_at}
 use Rattle.text_lines.specs.PlansLines.{PlansAnswer, page_text, answer_text}
 use Rattle.text_lines.specs.PlansLines as answer
 use Rattle.text_lines.specs.Pages.{plans_in, put_page}

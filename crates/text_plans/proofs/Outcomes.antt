@@ -8,7 +8,7 @@ use mathlib.Core.Logic.{◌⊎◌, ⊎_elim}
 use Prim.Native.Nat.{ℕ, zero, suc, ◌+◌, ◌*◌, ◌/◌, ◌%◌, ◌≤◌, ◌<◌, ◌^◌}
 use native.Mathlib.Nat.{pow-suc}
 use native.Mathlib.Omega.{arith}
-use borrow.Author.Tests.{ltb-true, ltb-false}
+use borrow.Author.Tests.{ltb-false}
 use lib.Dec.{ltb}
 use lib.ListN.{length, get_or, take}
 use Rattle.base_lists.specs.Pool.{pad}
@@ -28,7 +28,7 @@ use Rattle.text_day.specs.Made.{made_tells}
 use Rattle.text_day.specs.declared.made.Made.{Made}
 use Rattle.text_day.proofs.MadeLaws.{made_back, made-back}
 use Rattle.text_plans.specs.PlansAnswer.{Lists, lists-all, lists-page, lists-some, AnsweredBy, file_day, Answers}
-use Rattle.text_plans.specs.Calls.{Prints, text_judged, TextFits, refuses, prints}
+use Rattle.text_plans.specs.Calls.{Prints, TextFits, refuses, prints}
 
 -- ---- answers
 

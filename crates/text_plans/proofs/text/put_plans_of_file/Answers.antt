@@ -1,10 +1,9 @@
-use mathlib.Core.Bool.{true}
 use mathlib.Core.Path.{◌≡◌, sym}
 use lib.Seq.{length-take-le}
 use Rattle.day_rows.specs.Refusal.{number_of, carried_by}
 use Rattle.day_rows.specs.Told.{refused}
 use Rattle.day_file.specs.Calls.{file_judged}
-use Rattle.day_file.specs.FileDay.{parts, pools_full}
+use Rattle.day_file.specs.FileDay.{parts}
 use Rattle.text_lines.specs.PlansLines as answer
 use Rattle.text_lines.proofs.PlansLineLaws.{refused-is}
 use Rattle.text_day.proofs.FileLaws.{FileRead, pools-full, day_case, refused_case, mins-within, maxs-within, optional-within, rows-within, day-given, prepared_long, prepared_refused}
