@@ -1,7 +1,7 @@
 /* Asks the library for pages of plans, many of many days in one run. bench/against_clasp builds it, and
  * oracle/real_lists takes it:
  *
- *     cc -std=c11 -O2 -Iinclude bench/pages.c target/staticlib/libthalluscrest.a -o target/bench/pages
+ *     cc -std=c11 -O2 -Iinclude bench/pages.c crates/thalluscrest/out/libthalluscrest.a -o target/bench/pages
  *
  * On another machine than x86-64 by x86_64-linux-gnu-gcc, and run by `./thalluscrest run`; a time is then the emulator's.
  *

@@ -10,11 +10,11 @@
  * be one. A search tests what it places by the preferences up to a limit (its critical sets), and where it finds no
  * plan it raises the limit level by level; at the last level that test leaves every feasible plan.
  *
- * Build (in the project's folder, with Rattle's `rt`; it makes target/staticlib/libthalluscrest.a) and link
+ * Build (in the project's folder, with Rattle's `rt`; it makes crates/thalluscrest/out/libthalluscrest.a) and link
  * (the archive is all it takes):
  *
- *     rt staticlib thalluscrest
- *     cc -std=c11 -Iinclude program.c target/staticlib/libthalluscrest.a -o program
+ *     (cd crates/thalluscrest && rt lib)
+ *     cc -std=c11 -Iinclude program.c crates/thalluscrest/out/libthalluscrest.a -o program
  *
  * The archive is compiled for x86-64 Linux, on whatever machine it is made, and links into x86-64 programs only. On
  * an Arm machine compile with x86_64-linux-gnu-gcc (Debian's gcc-x86-64-linux-gnu) in the place of cc, and run with

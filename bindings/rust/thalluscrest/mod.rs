@@ -1,7 +1,7 @@
 //! Thalluscrest for Rust programs: a module of std alone. Copy this folder, `mod thalluscrest;`, and link
-//! target/staticlib/libthalluscrest.a (`rt staticlib thalluscrest`):
+//! crates/thalluscrest/out/libthalluscrest.a (`rt lib` in crates/thalluscrest):
 //!
-//!     rustc --edition 2024 program.rs -C link-arg=target/staticlib/libthalluscrest.a
+//!     rustc --edition 2024 program.rs -C link-arg=crates/thalluscrest/out/libthalluscrest.a
 //!
 //! The archive links into x86-64 programs only: on another machine add `--target x86_64-unknown-linux-gnu`, if rustc has that
 //! target's library, and `-C linker=x86_64-linux-gnu-gcc`, and run with `./thalluscrest run ./program`.

@@ -46,34 +46,34 @@ rows_in map whole = list_below 64 λ choice. length (looked_up map whole choice)
 
 -- what a pass of these is lent, by its limit and its number from 0
 unfoldable pub lent_in : Ground → ℕ → ℕ → Lent
-lent_in ground limit pass =
-    lent_of ground.full ground.day ground.map ground.whole
-    (pass_order ground.day.counts.choices ground.orders
-    (λ choice. get_or (rows_in ground.map ground.whole) choice 0) pass)
-    (map (λ set. set.members) (level_list ground.levels ground.sets limit)) ground.draws
+lent_in basis limit pass =
+    lent_of basis.full basis.day basis.map basis.whole
+    (pass_order basis.day.counts.choices basis.orders
+    (λ choice. get_or (rows_in basis.map basis.whole) choice 0) pass)
+    (map (λ set. set.members) (level_list basis.levels basis.sets limit)) basis.draws
 
 -- a pass of these, with its turns and the place of its first draw
 unfoldable pub pass_in : Ground → ℕ → ℕ → ℕ → ℕ → Out
-pass_in ground limit pass turns draw = pass_of (lent_in ground limit pass) turns draw
+pass_in basis limit pass turns draw = pass_of (lent_in basis limit pass) turns draw
 
 -- how the passes from a start on end, with the pass budget and all turns
 unfoldable pub ending_in : Ground → ℕ → ℕ → ℕ → Ending
-ending_in ground budget total start =
-    passes_from (pass_in ground) budget (levels_above ground.levels start) start 0 total 0
+ending_in basis budget total start =
+    passes_from (pass_in basis) budget (levels_above basis.levels start) start 0 total 0
 
 -- the plan at exit, by how the passes end
 abbrev pub planned_in : Ground → List ℕ → Ending → List ℕ
-planned_in ground before (found left pass limit places) = plan_of (lent_in ground limit pass) places
-planned_in ground before (none left pass limit) = before
-planned_in ground before (out pass limit) = before
+planned_in basis before (found left pass limit places) = plan_of (lent_in basis limit pass) places
+planned_in basis before (none left pass limit) = before
+planned_in basis before (out pass limit) = before
 
 -- the answer with its figures, and the plan, by how the passes end
 unfoldable pub answered : Ground → ℕ → List ℕ → Ending → Outcome Settled (List ℕ)
-answered ground total before ending = outcome (done (settled_by total ending)) (planned_in ground before ending)
+answered basis total before ending = outcome (done (settled_by total ending)) (planned_in basis before ending)
 
 -- the answer of the passes from a start on, and the plan
 unfoldable pub call_in : Ground → ℕ → ℕ → ℕ → List ℕ → Outcome Settled (List ℕ)
-call_in ground budget total start before = answered ground total before (ending_in ground budget total start)
+call_in basis budget total start before = answered basis total before (ending_in basis budget total start)
 
 -- ---- what is judged before the first pass
 
