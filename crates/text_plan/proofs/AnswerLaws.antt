@@ -4,15 +4,15 @@ use mathlib.Core.List.{List, [], ◌∷◌, ◌++◌}
 use Prim.Native.Nat.{ℕ, zero, suc, ◌*◌, ◌≤◌}
 use native.Mathlib.Nat.{le_of_suc-le-suc, not-suc-le-zero}
 use native.Mathlib.Omega.{arith}
-use lib.ListN.{length, take, drop, replicate, length-append, length-replicate}
+use lib.ListN.{length, take, replicate, length-append, length-replicate}
 use lib.Seq.{take_at, length-take-le}
 use Rattle.day_rows.specs.Refusal.{number_of}
-use Rattle.day_rows.specs.Told.{Told, done, refusal_tells, Outcome, outcome}
+use Rattle.day_rows.specs.Told.{Outcome, outcome}
 use Rattle.day_rows.specs.declared.check.Counts.{Counts}
 use Rattle.day_rows.specs.declared.check.Takes.TheVariants as takes
 use Rattle.day_rows.specs.declared.refusal.Refusal.{Refusal}
 use Rattle.day_rows.proofs.CountLaws.{within}
-use Rattle.reduce.specs.Reduction.{reduced_rows, search_list, reduce_of}
+use Rattle.reduce.specs.Reduction.{reduce_of}
 use Rattle.reduce.specs.declared.Reduction.{Reduction}
 use Rattle.day_file.specs.FileDay.{Parts, parts, row_counts}
 use Rattle.day_file.specs.File.{counts_in, lists_in, day_in, longest_file}
@@ -24,7 +24,7 @@ use Rattle.search_meaning.specs.SearchAnswer.{AnswerSays}
 use Rattle.search_day.specs.Planning.{given_own, plan_day_of}
 use Rattle.search_day.specs.declared.plan.PlanCounts.{PlanCounts}
 use Rattle.text_lines.specs.Put.{Pool, put_at}
-use Rattle.text_lines.specs.PlanLines.{PlanAnswer, found, none, turns, clash, refused, answer_text}
+use Rattle.text_lines.specs.PlanLines.{PlanAnswer, none, turns, clash, refused, answer_text}
 use Rattle.text_lines.specs.Putting.{put_whole, put_found}
 use Rattle.text_lines.proofs.PuttingLaws.{whole-put, found-put}
 use Rattle.text_day.specs.Prepared.{Prepared, reduced_to, prepared_of}

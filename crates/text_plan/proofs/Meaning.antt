@@ -1,5 +1,5 @@
 -- What `result found`, `result none` and `result turns` mean: demand 3 for the program `plan`.
-use mathlib.Core.Path.{◌≡◌, refl, sym, ◌∙◌, ap, subst}
+use mathlib.Core.Path.{◌≡◌, refl, sym, ap, subst}
 use mathlib.Core.Bool.{Bool, true, false}
 use mathlib.Core.List.{List, []}
 use Prim.Native.Nat.{ℕ, ◌≤◌, ◌<◌}
@@ -10,11 +10,10 @@ use Rattle.day_rows.specs.Told.{Told, done, refused, Outcome, outcome}
 use Rattle.day_file.specs.FileDay.{Parts}
 use Rattle.day_file.specs.File.{day_in}
 use Rattle.day_file.specs.declared.counts.FileCounts.{FileCounts}
-use Rattle.search_meaning.specs.Given.{Given}
 use Rattle.search_meaning.specs.Calls.{Settled, plan, no_plan, out_of_turns}
 use Rattle.search_meaning.specs.Demand.{turns_that_settle, SuchPlan, Settles}
 use Rattle.search_day.specs.Planning.{plan_day_of}
-use Rattle.text_lines.specs.PlanLines.{PlanAnswer, found, none, turns}
+use Rattle.text_lines.specs.PlanLines.{found, none, turns}
 use Rattle.text_day.specs.Prepared.{Prepared, prepared_of}
 use Rattle.text_day.specs.Prepared as prepared
 use Rattle.text_plan.specs.PlanAnswer.{plan_settings, plan_counts, told_answer, search_rows, search_answer, day_answer, day_given, answer_by, answer_of}

@@ -1,12 +1,11 @@
 -- A file that is too long or refused, or the text of its day.
-use mathlib.Core.Bool.{true}
 use mathlib.Core.Path.{◌≡◌, refl, sym, ◌∙◌}
 use native.Mathlib.Omega.{arith}
 use lib.Seq.{length-take-le}
 use Rattle.day_rows.specs.Refusal.{number_of, carried_by}
 use Rattle.day_rows.specs.Told.{refused}
 use Rattle.day_file.specs.Calls.{file_judged}
-use Rattle.day_file.specs.FileDay.{parts, pools_full}
+use Rattle.day_file.specs.FileDay.{parts}
 use Rattle.text_lines.proofs.PutLaws.{put_as}
 use Rattle.text_lines.proofs.PlanLineLaws.{refused-is}
 use Rattle.text_day.proofs.FileLaws.{FileRead, pools-full, day_case, refused_case, few-preferences, mins-within, maxs-within, optional-within, levels-within, preferences-within, rows-within, day-given, prepared_long, prepared_refused}
