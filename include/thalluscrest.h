@@ -43,8 +43,8 @@
  *
  * Nothing else. No call allocates, keeps a pointer, or reads or writes anything but its buffers and its stack;
  * there is no data of its own that changes. So calls may run in any number of threads at once, each with its own
- * buffers. Stack: list_page takes about 383 KB, since its tables stand there; of the other calls the most that was
- * measured is 50 KB, of plan_day.
+ * buffers. Stack: list_page takes about 247 KB, since its tables stand there; of the other calls the most that was
+ * measured is 47 KB, of plan_day.
  */
 #ifndef THALLUSCREST_H
 #define THALLUSCREST_H
@@ -390,7 +390,7 @@ enum thalluscrest_paged {
  * choices. What is lent and refused is as with list_plans. Room 0 asks for the total alone: the list is walked to its
  * end. `budget` is how many starts may be looked at, and one that list_plans has enough of is enough here. After
  * THALLUSCREST_OUT_OF_TURNS the plans that were met before stand on the page, each as it would in the whole list;
- * there may be more, on the page and after it. Takes about 383 KB of stack. */
+ * there may be more, on the page and after it. Takes about 247 KB of stack. */
 enum {
     THALLUSCREST_PAGED_OUTCOME = 0, /* enum thalluscrest_paged, or THALLUSCREST_OUT_OF_TURNS */
     THALLUSCREST_PAGED_WRITTEN = 1, /* how many plans stand on the page */

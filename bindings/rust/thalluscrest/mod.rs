@@ -375,7 +375,7 @@ impl Day {
     }
 
     /// The plans in dictionary order from number `first` on, as many as there is room for; room 0 asks for the total alone. Looks
-    /// at no more than `budget` starts of plans, and at far fewer than `plans` does. Takes about 383 KB of stack.
+    /// at no more than `budget` starts of plans, and at far fewer than `plans` does. Takes about 247 KB of stack.
     pub fn page(&self, rows: &[u64], first: u64, room: u64, budget: u64) -> Result<Page, Refusal> {
         let mut buffer = vec![0; room as usize * self.choices()];
         let figures = calls::list_page(

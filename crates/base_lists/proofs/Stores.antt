@@ -5,7 +5,7 @@ use Prim.Native.Nat.{ℕ, zero, suc, ◌+◌, ◌*◌, ◌-◌, ◌≤◌, ◌<�
 use native.Mathlib.Nat.{suc-add, add-suc, add-zero, zero-add}
 use native.Mathlib.Numerals.{add-one}
 use native.Mathlib.Omega.{arith}
-use lib.ListN.{length, get_or, take, drop, set, replicate, length-replicate, length-append, length-drop, drop_of_length-le}
+use lib.ListN.{length, get_or, take, drop, set, replicate, length-replicate, length-append, drop_of_length-le}
 use lib.Seq.{sets, length-sets, sets-eq, drop-cons, take-set-le, drop-set-add, take_at}
 use Rattle.base_lists.specs.Flat.{join_below}
 use Rattle.base_lists.specs.Pool.{pad}

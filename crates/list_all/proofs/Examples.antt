@@ -1,7 +1,6 @@
 -- The sample day: two mandatory choices 0..1 in two slots for one chooser have two plans and seven nodes.
 use mathlib.Core.Path.{◌≡◌, refl}
-use mathlib.Core.List.{List, [], ◌∷◌, flat_map}
-use Prim.Native.Nat.{ℕ}
+use mathlib.Core.List.{[], ◌∷◌, flat_map}
 use Rattle.base_lists.specs.All.{all_of}
 use Rattle.base_lists.specs.Below.{all_below, sum_below}
 use Rattle.base_lists.specs.Keep.{keep}
@@ -9,7 +8,7 @@ use Rattle.plan_check.specs.Day.{Day, day_of}
 use Rattle.plan_check.specs.Plan.{slot_of, omitted, stands_in, sum_up_to, sum_in}
 use Rattle.plan_check.specs.Rows.{keeps_rows}
 use Rattle.plan_check.specs.Feasible.{omission_allowed, place_allowed, places_allowed, slot_fits, feasible}
-use Rattle.list_nodes.specs.Placements.{slots_from, places, placements, plans, page, total, is_node, nodes}
+use Rattle.list_nodes.specs.Placements.{slots_from, places, placements, plans, page, is_node, nodes}
 
 abbrev sample : Day
 sample =

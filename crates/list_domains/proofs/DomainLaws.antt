@@ -1,22 +1,21 @@
 -- What the laws of every rule stand on: where a plan's choices stand, and that they stay within
 -- what is left of their domains.
-use mathlib.Core.Path.{◌≡◌, refl, sym, ◌∙◌, ap, ap₂}
-use mathlib.Core.Bool.{Bool, true, false, ◌&&◌, ◌||◌, not, cond, false≢true, or-true}
+use mathlib.Core.Path.{◌≡◌, refl, sym, ◌∙◌, ap}
+use mathlib.Core.Bool.{Bool, true, false, ◌&&◌, ◌||◌, not, cond, or-true}
 use mathlib.Core.List.{List}
 use mathlib.Core.Logic.{◌⊎◌, inl, inr}
 use Prim.Native.Nat.{ℕ, zero, suc, ◌+◌, ◌≤◌, ◌<◌}
 use native.Mathlib.Decide.{ℕ_discrete}
-use native.Mathlib.Nat.{not-suc-le-zero}
 use native.Mathlib.Omega.{arith}
 use borrow.Author.Tests.{lt-ltb, le-ltb, ltb-true, ltb-false, leb-true, eq-eqb, ne_eqb, eqb-true, not-true}
 use lib.Arith.{lt_of_le-ne}
-use lib.Dec.{eqb, ltb, leb}
-use lib.ListN.{length, get_or, set, length-set, get_or-eq_default}
+use lib.Dec.{eqb, ltb}
+use lib.ListN.{length, get_or, set, length-set}
 use lib.Seq.{get_or-set_same, get_or-set_other, set-get_or}
 use Rattle.base_lists.specs.Below.{count_below}
 use Rattle.base_lists.proofs.Below.{and_left, and_right, and_both, same_test}
 use Rattle.base_lists.proofs.CountBelow.{count_misses}
-use Rattle.base_choice_sets.specs.Sets.{has, set_of, size_of}
+use Rattle.base_choice_sets.specs.Sets.{has, size_of}
 use Rattle.base_choice_sets.proofs.SetLaws.{has-set}
 use Rattle.plan_check.specs.Day.{Day}
 use Rattle.plan_check.specs.Plan.{slot_of, stands_in}

@@ -8,8 +8,7 @@ use native.Mathlib.Omega.{arith}
 use borrow.Author.Tests.{lt-ltb, le-ltb, ltb-true, ltb-false, le-leb, eq-eqb, ne_eqb}
 use lib.Dec.{eqb, ltb, leb}
 use lib.ListN.{length, get_or, set, take, replicate, length-set, length-replicate, get_or-replicate}
-use lib.Seq.{get_or-take, get_or-set_same}
-use Rattle.base_lists.specs.Below.{all_below}
+use lib.Seq.{get_or-take}
 use Rattle.base_lists.proofs.Below.{each_all, and_both, and_left, and_right}
 use Rattle.day_rows.specs.Row.{row_of}
 use Rattle.day_rows.specs.declared.check.Counts.{Counts}
@@ -21,7 +20,6 @@ use Rattle.base_choice_sets.specs.Sets.{has, set_of}
 use Rattle.base_choice_sets.proofs.SetLaws.{has-past, has-set, has-set-past}
 use Rattle.list_domains.specs.steps.Domains.{place_number, only_place, Within}
 use Rattle.list_domains.proofs.DomainLaws.{number_le, only_has, each-length, within-at, set-within, feasible-place}
-use Rattle.base_lists.proofs.Lists.{past-none}
 use Rattle.list_nodes.specs.steps.Walk.{place_of, place_fits}
 use Rattle.list_tables.specs.steps.Tables.{TablesFilled, tables_fit, entry_at, weight_at}
 use Rattle.list_rule_slots.specs.steps.SlotRules.{slots_rule, limit_rule}
@@ -39,7 +37,7 @@ use Rattle.list_rule_tables.proofs.WithinLaws.{tables_within}
 use Rattle.list_rule_tables.proofs.EnoughPlaces.{enough-keeps}
 use Rattle.list_rule_counts.specs.steps.CountRule.{has_limit, wants_of, rooms_of, broken, counts_rule}
 use Rattle.list_rule_counts.proofs.CountLaws.{counts-length, counts-within, wants_stand, rooms_stand, not-broken}
-use Rattle.list_look.specs.steps.Open.{open_at, open_places}
+use Rattle.list_look.specs.steps.Open.{open_at}
 use Rattle.list_look.proofs.OpenLaws.{open_has, open_fits}
 use Rattle.list_decided.specs.steps.Leaves.{rows_leave}
 use Rattle.list_look.specs.steps.Look.{decided, alive, alive_or, limits_leave, weighed, kept_if_alive, looked_ahead, near_end, opened_at, seen_at}

@@ -1,15 +1,14 @@
 -- The places that are open to the next choice.
-use mathlib.Core.Path.{◌≡◌, refl, sym, ap, ◌∙◌}
-use mathlib.Core.Bool.{Bool, true, false, ◌&&◌, cond}
+use mathlib.Core.Path.{◌≡◌, sym, ◌∙◌}
+use mathlib.Core.Bool.{true}
 use mathlib.Core.List.{List}
 use Prim.Native.Nat.{ℕ, ◌+◌, ◌≤◌}
 use native.Mathlib.Omega.{arith}
 use borrow.Author.Tests.{le-leb}
-use lib.Dec.{leb}
 use lib.ListN.{get_or}
 use Rattle.base_lists.proofs.Below.{and_left}
 use Rattle.day_rows.specs.declared.check.Counts.{Counts}
-use Rattle.base_choice_sets.specs.Sets.{has, set_of}
+use Rattle.base_choice_sets.specs.Sets.{has}
 use Rattle.base_choice_sets.proofs.SetLaws.{has-set}
 use Rattle.list_nodes.specs.steps.Walk.{place_of, place_fits}
 use Rattle.list_rule_tables.specs.steps.Enough.{enough_places}

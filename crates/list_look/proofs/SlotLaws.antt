@@ -8,7 +8,7 @@ use native.Mathlib.Nat.{zero-add}
 use native.Mathlib.Omega.{arith}
 use borrow.Author.Tests.{lt-ltb, le-ltb, le-leb, lt-leb, leb-true, leb-false, ltb-true, eq-eqb, ne_eqb}
 use lib.Dec.{eqb, ltb, leb}
-use lib.ListN.{length, get_or, get_or-eq_default}
+use lib.ListN.{get_or}
 use Rattle.base_lists.proofs.Below.{and_left, and_right}
 use Rattle.day_rows.specs.declared.check.Counts.{Counts}
 use Rattle.base_choice_sets.specs.Sets.{has, set_of, with_choice}

@@ -13,6 +13,7 @@ use list_tables::shape::TABLES;
 
 // The domains once the choice before this one is decided: every rule takes away what it leaves to no plan. A
 // start that tables or counts show to be dead is given up before slots and rows.
+#[inline(never)]
 pub fn look_ahead(
     asked: &[usize; 6],
     mins: &[u16],

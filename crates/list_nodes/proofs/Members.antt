@@ -3,7 +3,7 @@
 use mathlib.Core.Path.{◌≡◌, refl, sym, ap, ◌∙◌}
 use mathlib.Core.Bool.{Bool, true, false, ◌||◌}
 use mathlib.Core.List.Memᴰ
-use mathlib.Core.List.{List, [], ◌∷◌, ◌++◌, map, flat_map, Memᴰ}
+use mathlib.Core.List.{List, [], ◌∷◌, map, Memᴰ}
 use mathlib.Core.Logic.{◌⊎◌, inl, inr, ⊎_elim}
 use Prim.Native.Nat.{ℕ, zero, suc, ◌+◌, ◌≤◌, ◌<◌}
 use native.Mathlib.Decide.{ℕ_discrete}
@@ -12,7 +12,6 @@ use borrow.Author.Tests.{ltb-true}
 use lib.Arith.{lt_of_le-ne}
 use lib.Dec.{ltb}
 use lib.ListN.{length, get_or}
-use Rattle.base_lists.specs.Keep.{keep}
 use Rattle.base_lists.proofs.Below.{all-each}
 use Rattle.base_lists.proofs.Keep.{in_map, map_in, in_flat_map, flat_map_in, kept_in, in_kept}
 use Rattle.plan_check.specs.Day.{Day}

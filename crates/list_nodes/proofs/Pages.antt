@@ -1,8 +1,8 @@
 -- 'pages joined are the whole', for any cut of the list into pages.
 use mathlib.Core.Path.{◌≡◌, refl, sym, ap, ◌∙◌}
 use mathlib.Core.List.{List, [], ◌∷◌, ◌++◌}
-use Prim.Native.Nat.{ℕ, zero, suc, ◌+◌, ◌≤◌}
-use lib.ListN.{length, take, drop}
+use Prim.Native.Nat.{ℕ, ◌+◌, ◌≤◌}
+use lib.ListN.{drop}
 use lib.Seq.{take-add, drop-drop, take_all}
 use Rattle.base_lists.specs.Keep.{sum_over}
 use Rattle.plan_check.specs.Day.{Day}

@@ -3,7 +3,7 @@
 use mathlib.Core.Path.{◌≡◌, refl, sym, ap, fun_ext, ◌∙◌}
 use mathlib.Core.Bool.{Bool, true, false, cond}
 use mathlib.Core.List.{List, [], ◌∷◌, ◌++◌, map, flat_map, append-nil}
-use Prim.Native.Nat.{ℕ, zero, suc, ◌+◌, ◌≤◌, ◌<◌}
+use Prim.Native.Nat.{ℕ, zero, suc, ◌+◌, ◌≤◌}
 use native.Mathlib.Numerals.{one-add}
 use native.Mathlib.Omega.{arith}
 use lib.Dec.{ltb}
@@ -19,7 +19,7 @@ use Rattle.plan_check.specs.Plan.{sum_up_to, sum_in}
 use Rattle.plan_check.specs.steps.Sums.{Sums}
 use Rattle.list_nodes.specs.Placements.{places, placements, plans, is_node, nodes}
 use Rattle.list_nodes.specs.steps.Walk.{place_fits, sums_with, nodes_from, goes_to, sums_to, if_feasible, plans_from}
-use Rattle.list_nodes.proofs.StartLaws.{Node, node_facts, empty-node, no_node-after, no_plan-after, step-node, step-sums}
+use Rattle.list_nodes.proofs.StartLaws.{node_facts, empty-node, no_node-after, no_plan-after, step-node, step-sums}
 
 -- the placements that go on from a start
 abbrev pub after : ℕ → List ℕ → ℕ → List (List ℕ)

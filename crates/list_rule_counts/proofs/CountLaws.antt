@@ -25,7 +25,7 @@ use Rattle.plan_check.specs.Day.{Day}
 use Rattle.plan_check.specs.Plan.{slot_of, stands_in, count_in}
 use Rattle.plan_check.specs.Rows.{op_holds, keeps_row}
 use Rattle.plan_check.specs.Feasible.{feasible}
-use Rattle.plan_check.specs.PlanMeans.{Feasible, Placed}
+use Rattle.plan_check.specs.PlanMeans.{Placed}
 use Rattle.plan_check.proofs.Meaning.{feasible_means}
 use Rattle.plan_check.proofs.PlanLaws.{stands-omitted}
 use Rattle.plan_check.proofs.RowLaws.{op_eq, op_neq, op_gt, op_geq, op_leq, op_lt, keeps_limited_size}

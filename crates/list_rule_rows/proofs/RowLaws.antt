@@ -1,5 +1,5 @@
 -- A plan that keeps a row stays within what the row leaves of the domains.
-use mathlib.Core.Path.{◌≡◌, refl, sym, ◌∙◌, ap, ap₂, subst}
+use mathlib.Core.Path.{◌≡◌, refl, sym, ◌∙◌, ap, subst}
 use mathlib.Core.Bool.{Bool, true, false, ◌&&◌, not, cond, false≢true}
 use mathlib.Core.List.{List}
 use mathlib.Core.Logic.{◌⊎◌, inl, inr, ⊎_elim}
@@ -8,7 +8,7 @@ use native.Mathlib.Decide.{ℕ_discrete}
 use native.Mathlib.Omega.{arith}
 use borrow.Author.Tests.{lt-ltb, ltb-true, ltb-false, le-leb, eq-eqb, ne_eqb, eqb-true}
 use lib.Arith.{lt_of_le-ne}
-use lib.Dec.{eqb, ltb, leb}
+use lib.Dec.{eqb, ltb}
 use lib.ListN.{length, get_or, set, length-set}
 use Rattle.base_lists.proofs.Below.{and_both}
 use Rattle.day_rows.specs.declared.row.Row.{Row}
@@ -18,10 +18,10 @@ use Rattle.plan_check.specs.Plan.{slot_of}
 use Rattle.plan_check.specs.Rows.{offset_kept, keeps_row}
 use Rattle.plan_check.proofs.RowLaws.{offset-left-out, offset-right-out, offset-both, keeps-offset-row}
 use Rattle.plan_check.proofs.Meaning.{kind_1, kind_2, kind_3, kind_4}
-use Rattle.list_domains.specs.steps.Domains.{place_number, Within, only_place, kept_places, both_places, in_one_slot}
+use Rattle.list_domains.specs.steps.Domains.{place_number, Within, only_place, both_places, in_one_slot}
 use Rattle.list_domains.proofs.DomainLaws.{number_in, number-out, number_le, number-slot, kept-stays, both-stays, only_has, slot-one, slot-not-omitted, within-at, set-within}
-use Rattle.list_rule_rows.specs.steps.RowRules.{has_domain, slot_leaves, slot_rule, apart, facing, facing_places, right_faces, left_faces, pair_left, pair_right, pair_rule, self_leaves, self_rule, between_rule, row_rule}
-use Rattle.list_rule_rows.proofs.SideLaws.{domain_below, domain_choice, leaves-past, leaves_by, apart-not, left-faced, right-faced, left-same, right-same, left-apart, right-apart, left-offset, right-offset, slot-none, slot-by, pair_no_left, pair_no_right, pair-by, self_apart, self_offset, self_other, self_none, self_by, between-one, between-two, row_in-slot, row-not_in_slot, row-same-slot, row-not-same-slot, row-offset, row_other}
+use Rattle.list_rule_rows.specs.steps.RowRules.{has_domain, slot_leaves, slot_rule, apart, facing, facing_places, pair_left, pair_right, pair_rule, self_leaves, self_rule, between_rule, row_rule}
+use Rattle.list_rule_rows.proofs.SideLaws.{domain_below, domain_choice, leaves-past, leaves_by, left-faced, right-faced, left-same, right-same, left-apart, right-apart, left-offset, right-offset, slot-none, slot-by, pair_no_left, pair_no_right, pair-by, self_apart, self_offset, self_other, self_none, self_by, between-one, between-two, row_in-slot, row-not_in_slot, row-same-slot, row-not-same-slot, row-offset, row_other}
 
 -- a place of the day's: one of its slots, or omission
 abbrev pub Allowed : ℕ → ℕ → Type 0

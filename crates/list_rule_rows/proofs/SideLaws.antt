@@ -1,13 +1,13 @@
 -- One law for each way through a side's function, and through those that write the domains.
 use mathlib.Core.Path.{◌≡◌, refl, sym, ◌∙◌, ap, ap₂}
-use mathlib.Core.Bool.{Bool, true, false, ◌&&◌, ◌||◌, not, cond}
+use mathlib.Core.Bool.{Bool, true, false, ◌&&◌, not, cond}
 use mathlib.Core.List.{List}
-use Prim.Native.Nat.{ℕ, ◌+◌, ◌-◌, ◌^◌, ◌≤◌, ◌<◌}
+use Prim.Native.Nat.{ℕ, ◌-◌, ◌^◌, ◌≤◌, ◌<◌}
 use native.Mathlib.Omega.{arith}
 use borrow.Author.Tests.{lt-ltb, le-ltb, ltb-true, eq-eqb, ne_eqb}
 use lib.Bits.{bit_and, bit_xor}
-use lib.Dec.{eqb, ltb, leb}
-use lib.ListN.{length, get_or, set}
+use lib.Dec.{eqb, ltb}
+use lib.ListN.{get_or, set}
 use Rattle.base_lists.proofs.Below.{and_left, and_right}
 use Rattle.day_rows.specs.declared.row.Row.{Row}
 use Rattle.base_choice_sets.specs.Sets.{has, set_of}

@@ -16,7 +16,7 @@ use Rattle.base_choice_sets.proofs.SetLaws.{has-set}
 use Rattle.plan_check.specs.Day.{Day}
 use Rattle.plan_check.specs.Plan.{slot_of, stands_in, sum_up_to, sum_in}
 use Rattle.plan_check.specs.Feasible.{feasible}
-use Rattle.plan_check.specs.PlanMeans.{Feasible, Placed}
+use Rattle.plan_check.specs.PlanMeans.{Placed}
 use Rattle.plan_check.proofs.Meaning.{feasible_means}
 use Rattle.plan_check.proofs.PlanLaws.{stands-omitted, stands_by}
 use Rattle.list_tables.specs.steps.Weights.{least, least_of, sum_from}

@@ -4,16 +4,15 @@ use mathlib.Core.Bool.{Bool, true, false, not, cond}
 use mathlib.Core.List.{List}
 use Prim.Native.Nat.{ℕ, zero, suc, ◌+◌, ◌≤◌, ◌<◌, ◌^◌}
 use native.Mathlib.Decide.{ℕ_discrete}
-use native.Mathlib.Numerals.{add-one}
 use native.Mathlib.Nat.{not-suc-le-zero}
 use native.Mathlib.Omega.{arith}
 use borrow.Author.Tests.{lt-ltb, le-ltb, ltb-true, ltb-false, lt-leb, le-leb, eq-eqb, ne_eqb}
 use lib.Dec.{ltb, leb}
 use lib.ListN.{length, get_or, replicate}
 use Rattle.day_rows.specs.declared.check.Counts.{Counts}
-use Rattle.base_choice_sets.specs.Sets.{has, set_of, with_choice}
+use Rattle.base_choice_sets.specs.Sets.{has, with_choice}
 use Rattle.base_choice_sets.proofs.SetLaws.{has-past, set-start, set-step}
-use Rattle.list_domains.specs.steps.Domains.{settled, lowest_place, lowest_from}
+use Rattle.list_domains.specs.steps.Domains.{settled, lowest_place}
 use Rattle.list_domains.proofs.LowestLaws.{lowest-has, lowest_le}
 use Rattle.list_rule_tables.specs.steps.Figures.{free_of, first_in, lacks_of, lacks_in}
 

@@ -4,7 +4,7 @@ use mathlib.Core.Bool.{Bool, true, false, ◌&&◌, not, cond, false≢true}
 use mathlib.Core.List.{List}
 use Prim.Native.Nat.{ℕ, zero, suc, ◌+◌, ◌-◌, ◌≤◌, ◌<◌, max}
 use native.Mathlib.Omega.{arith}
-use borrow.Author.Tests.{lt-ltb, le-ltb, ltb-true, ltb-false, le-leb, leb-true, leb-false, eq-eqb, ne_eqb, eqb-true}
+use borrow.Author.Tests.{le-ltb, ltb-true, ltb-false, le-leb, leb-true, leb-false, eq-eqb, ne_eqb}
 use lib.Dec.{eqb, ltb, leb}
 use lib.ListN.{length, get_or, replicate, length-replicate}
 use Rattle.base_lists.specs.Below.{sum_below}
@@ -16,17 +16,17 @@ use Rattle.base_choice_sets.proofs.SetLaws.{has-set}
 use Rattle.plan_check.specs.Day.{Day}
 use Rattle.plan_check.specs.Plan.{slot_of, stands_in, sum_up_to, sum_in}
 use Rattle.plan_check.specs.Feasible.{feasible}
-use Rattle.plan_check.specs.PlanMeans.{Feasible, Placed}
+use Rattle.plan_check.specs.PlanMeans.{Placed}
 use Rattle.plan_check.proofs.Meaning.{feasible_means}
 use Rattle.plan_check.proofs.PlanLaws.{stands-omitted, stands_by}
-use Rattle.list_tables.specs.steps.Weights.{least, least_of, sum_from}
+use Rattle.list_tables.specs.steps.Weights.{least_of, sum_from}
 use Rattle.list_tables.specs.steps.Tables.{tables_fit, TablesFilled, entry_at, weight_at, written}
 use Rattle.list_tables.proofs.WeightLaws.{sum_join, from_ext, below_le, below-add, below-zeros}
 use Rattle.list_tables.proofs.TableLaws.{written_in, entry-least}
 use Rattle.list_tables.proofs.StartLaws.{stands_only}
 use Rattle.list_tables.specs.steps.Lightest.{lightest_of, lightest_at, LightestFilled}
-use Rattle.list_domains.specs.steps.Domains.{place_number, Within, each_below}
-use Rattle.list_domains.proofs.DomainLaws.{number_in, number-out, each-length, each_within}
+use Rattle.list_domains.specs.steps.Domains.{place_number, Within}
+use Rattle.list_domains.proofs.DomainLaws.{number_in, each-length, each_within}
 use Rattle.list_rule_tables.specs.steps.Figures.{free_of, first_in, settled_in, settled_sum, free_in, lack_of, lacks_of}
 use Rattle.list_rule_tables.specs.steps.Rule.{slot_needs, needed, spare_of, slot_stays, weighed_places, table_rule, tables_below, tables_rule}
 use Rattle.list_rule_tables.proofs.FigureLaws.{first_le, first-none}

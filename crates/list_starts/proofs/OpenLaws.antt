@@ -6,7 +6,7 @@ use Prim.Native.Nat.{ℕ, zero, suc, ◌+◌, ◌-◌, ◌≤◌, ◌<◌}
 use native.Mathlib.Omega.{arith}
 use borrow.Author.Tests.{le-leb, lt-leb, leb-true, leb-false}
 use lib.Dec.{leb}
-use lib.ListN.{length, get_or, get_or-eq_default}
+use lib.ListN.{get_or}
 use Rattle.list_nodes.specs.steps.Walk.{place_of, place_fits, next_open}
 use Rattle.list_nodes.proofs.PlaceLaws.{may_stand}
 use Rattle.list_starts.specs.steps.Starts.{open_within}

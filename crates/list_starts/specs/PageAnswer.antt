@@ -1,5 +1,4 @@
 -- What an answer of `list_page` tells, case by case.
-use Rattle.std.specs.Prelude.{ℕ}
 use Rattle.day_rows.specs.Told.{Told, done, refusal_tells}
 use Rattle.list_nodes.specs.Page.{PageTold, ended_told, goes_on_told, turns_told}
 use Rattle.list_starts.specs.declared.page_end.Paged.{Paged}

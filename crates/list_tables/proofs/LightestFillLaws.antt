@@ -7,7 +7,7 @@ use native.Mathlib.Decide.{ℕ_discrete}
 use native.Mathlib.Numerals.{add-one}
 use native.Mathlib.Nat.{not-suc-le-zero}
 use native.Mathlib.Omega.{arith}
-use lib.ListN.{length, get_or, set}
+use lib.ListN.{length, get_or}
 use Rattle.list_tables.specs.steps.Weights.{last_entry, least}
 use Rattle.list_tables.specs.steps.Tables.{weight_at, written, next_entry}
 use Rattle.list_tables.proofs.TableLaws.{written-length, written_in, written_out, weight_same}

@@ -1,5 +1,5 @@
 -- The walk from the empty start.
-use Rattle.std.proofs.Common.{◌≡◌, ℕ, ◌+◌, ◌-◌, ◌*◌, ◌^◌, ◌<◌, ◌≤◌, true, List, [], length, get_or, take, replicate, sym, refl, ap, ◌∙◌, arith}
+use Rattle.std.proofs.Common.{◌≡◌, ℕ, ◌+◌, ◌-◌, ◌*◌, ◌^◌, ◌<◌, ◌≤◌, true, List, [], length, take, replicate, sym, ap, ◌∙◌, arith}
 use native.Mathlib.Nat.{sub-zero}
 use lib.ListN.{length-replicate}
 use Rattle.plan_check.specs.Day.{Day}

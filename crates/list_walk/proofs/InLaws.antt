@@ -1,5 +1,5 @@
 -- The next place that a choice may take and that its domain has.
-use Rattle.std.proofs.Common.{◌≡◌, ℕ, zero, suc, ◌+◌, ◌-◌, ◌≤◌, Bool, true, false, cond, ◌&&◌, ltb, List, get_or, refl, ap, ◌∙◌, pos_of_ne-zero, arith, ltb-false, le-ltb}
+use Rattle.std.proofs.Common.{◌≡◌, ℕ, zero, suc, ◌+◌, ◌-◌, ◌≤◌, Bool, true, false, cond, ◌&&◌, ltb, List, refl, ap, ◌∙◌, pos_of_ne-zero, arith, ltb-false, le-ltb}
 use mathlib.Core.Bool.{and-false}
 use Rattle.base_choice_sets.specs.Sets.{has}
 use Rattle.plan_check.specs.Day.{Day}

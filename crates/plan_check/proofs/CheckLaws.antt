@@ -1,11 +1,10 @@
 -- The plan check as a call, a law for each way through its functions.
 use mathlib.Core.Path.{◌≡◌, refl, sym, ◌∙◌, ap}
-use mathlib.Core.Bool.{Bool, true, false, ◌&&◌, ◌||◌, cond}
+use mathlib.Core.Bool.{Bool, true, false, ◌&&◌, ◌||◌}
 use mathlib.Core.List.{List}
 use Prim.Native.Nat.{ℕ, ◌+◌, ◌≤◌, ◌<◌}
-use native.Mathlib.Omega.{arith}
-use borrow.Author.Tests.{lt-ltb, le-ltb, le-leb, lt-leb, eq-eqb, ne_eqb, eqb-true}
-use lib.Dec.{eqb, ltb, leb}
+use borrow.Author.Tests.{eq-eqb, ne_eqb, eqb-true}
+use lib.Dec.{eqb, ltb}
 use lib.ListN.{length, get_or, drop}
 use Rattle.base_lists.specs.All.{all_of, all_at_most}
 use Rattle.base_lists.specs.Below.{all_below}
@@ -13,7 +12,7 @@ use Rattle.base_lists.proofs.All.{all-passes, all-fails, all-passed, each-all_of
 use Rattle.base_lists.proofs.Below.{all-each, and_left, and_right}
 use Rattle.day_rows.specs.Check.{counts_in_range, rows_judged}
 use Rattle.day_rows.specs.declared.check.Takes.TheVariants.{Scheduling}
-use Rattle.day_rows.specs.Told.{Told, done, refused, Verdict, good, refuse, unless, and_then}
+use Rattle.day_rows.specs.Told.{done, refused, Verdict, good, refuse, unless, and_then}
 use Rattle.day_rows.proofs.ToldLaws.{unless-done, then_done}
 use Rattle.day_rows.proofs.CountLaws.{Within, within}
 use Rattle.plan_check.specs.Day.{Day}

@@ -1,6 +1,6 @@
 -- Two lists of rules joined (02, request 11): a plan keeps them exactly if it keeps each, in either order.
 use mathlib.Core.Path.{◌≡◌, sym, ◌∙◌}
-use mathlib.Core.Bool.{Bool, true, false, ◌&&◌, and_comm, and_self}
+use mathlib.Core.Bool.{◌&&◌, and_comm, and_self}
 use mathlib.Core.List.{List, ◌++◌}
 use Prim.Native.Nat.{ℕ}
 use Rattle.base_lists.proofs.All.{all_append}

@@ -1,20 +1,18 @@
 -- A plan's rows asked alone: the pass that counts each slot's choices, and the ways through keeps_every_row.
-use mathlib.Core.Path.{◌≡◌, refl, sym, ◌∙◌, ap}
-use mathlib.Core.Bool.{Bool, true, false, ◌&&◌, ◌||◌, false≢true}
+use mathlib.Core.Path.{◌≡◌, refl, sym, ◌∙◌}
+use mathlib.Core.Bool.{true, false, false≢true}
 use mathlib.Core.List.{List}
 use Prim.Native.Nat.{ℕ, ◌+◌, ◌≤◌, ◌<◌}
 use native.Mathlib.Omega.{arith}
-use borrow.Author.Tests.{lt-ltb, le-ltb, le-leb, lt-leb, eq-eqb, ne_eqb}
-use lib.Dec.{eqb, ltb, leb}
+use borrow.Author.Tests.{lt-ltb, le-ltb, le-leb, lt-leb}
 use lib.ListN.{length, get_or, set, replicate, length-set}
 use Rattle.base_lists.specs.All.{all_of}
 use Rattle.base_lists.proofs.Sums.{count-sum}
-use Rattle.plan_check.specs.Plan.{slot_of, stands_in, count_in, sum_up_to}
+use Rattle.plan_check.specs.Plan.{stands_in, count_in, sum_up_to}
 use Rattle.plan_check.specs.Check.{cell_fits}
 use Rattle.plan_check.specs.Rows.{keeps_rows}
 use Rattle.plan_check.specs.steps.Kept.{keeps_every}
 use Rattle.plan_check.specs.steps.Sizing.{Counted}
-use Rattle.plan_check.specs.steps.Sums.{Sizes}
 use Rattle.plan_check.proofs.PlanLaws.{slot-at}
 use Rattle.plan_check.proofs.SumLaws.{Summing, summing_none, summing_skip, summing_put}
 use Rattle.plan_check.proofs.CheckLaws.{RestDecides, rest-start, rest-next, rest-fails, rest-none, cell_omitted, cell_slot}

@@ -1,20 +1,20 @@
 -- The pass over the choices and the pass over the slots: each slot's sums as they grow, and what they decide.
 use mathlib.Core.Path.{◌≡◌, refl, sym, ◌∙◌, ap}
-use mathlib.Core.Bool.{Bool, true, false, ◌&&◌, ◌||◌, cond, false≢true}
+use mathlib.Core.Bool.{Bool, true, false, ◌&&◌, cond, false≢true}
 use mathlib.Core.List.{List}
 use Prim.Native.Nat.{ℕ, zero, suc, ◌+◌, ◌*◌, ◌≤◌, ◌<◌, ◌^◌}
 use native.Mathlib.Decide.{ℕ_discrete}
 use native.Mathlib.Omega.{arith}
-use borrow.Author.Tests.{lt-ltb, le-ltb, le-leb, lt-leb, eq-eqb, ne_eqb, eqb-true}
-use lib.Dec.{eqb, ltb, leb}
-use lib.ListN.{length, get_or, set, replicate, length-replicate, length-set}
+use borrow.Author.Tests.{lt-ltb, le-ltb, le-leb, lt-leb, eq-eqb, ne_eqb}
+use lib.Dec.{leb}
+use lib.ListN.{length, get_or, set, replicate, length-set}
 use lib.Seq.{get_or-set_same, get_or-set_other}
-use Rattle.base_lists.specs.Below.{all_below, sum_below, count_below}
-use Rattle.base_lists.proofs.Below.{and_left, all_more, one-fails, sum_more}
+use Rattle.base_lists.specs.Below.{all_below, sum_below}
+use Rattle.base_lists.proofs.Below.{all_more, one-fails, sum_more}
 use Rattle.base_lists.proofs.Sums.{all_ext, count-sum, sum-word}
 use Rattle.plan_check.specs.Plan.{slot_of, stands_in, count_in, sum_up_to, sum_in}
 use Rattle.plan_check.specs.Feasible.{omission_allowed, place_allowed, places_allowed, slot_fits}
-use Rattle.plan_check.specs.steps.Sums.{Shapes, Sums, Sizes, Added, listed_fits}
+use Rattle.plan_check.specs.steps.Sums.{Sums, Added, listed_fits}
 use Rattle.plan_check.proofs.PlanLaws.{slot-at, stands-omitted, stands_by}
 
 -- the first choices' sums stand in the list, slot by slot

@@ -1,9 +1,9 @@
 -- Every call is done or hands back one of 01's numbers, and no two outcomes fit what it promises.
-use mathlib.Core.Path.{◌≡◌, refl, sym, ◌∙◌, ap}
+use mathlib.Core.Path.{◌≡◌, sym, ◌∙◌, ap}
 use mathlib.Core.List.{List}
 use Prim.Native.Nat.{ℕ, ◌≤◌}
 use native.Mathlib.Omega.{arith}
-use Rattle.day_rows.specs.Refusal.{number_of, carried_by}
+use Rattle.day_rows.specs.Refusal.{number_of}
 use Rattle.day_rows.specs.Told.{Told, done, refused, refusal_tells, Outcome, outcome}
 use Rattle.day_rows.specs.declared.refusal.Refusal.{Refusal}
 use Rattle.day_rows.specs.declared.refusal.Refusal.TheVariants as case

@@ -30,7 +30,7 @@ use Rattle.text_plans.proofs.CallLaws.{text-fits}
 use Rattle.text_plans.proofs.Outcomes.{answered_in_time, one_answer, total-zero}
 use Rattle.promises.specs.Words.{Begins, Clashes}
 use Rattle.promises.specs.Calls.{page_in, ListedIsTrue, PageIsTrue}
-use Rattle.promises.specs.Promises.{PlanOf, ListTextIsTrue}
+use Rattle.promises.specs.Promises.{ListTextIsTrue}
 use Rattle.promises.proofs.Plans.{of_plan}
 use Rattle.promises.proofs.Rules.{clash-is}
 use Rattle.promises.proofs.Sheet.{letter, clash_prepared, refused_prepared}

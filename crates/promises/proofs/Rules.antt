@@ -2,13 +2,13 @@
 use mathlib.Core.Path.{◌≡◌, refl, sym, ◌∙◌, ap, subst}
 use mathlib.Core.Bool.{Bool, true, false, ◌&&◌, ◌||◌, not, cond}
 use mathlib.Core.List.Memᴰ
-use mathlib.Core.List.{List, [], ◌∷◌, ◌++◌, map, flat_map, Memᴰ}
+use mathlib.Core.List.{List, [], ◌∷◌, map, flat_map, Memᴰ}
 use mathlib.Core.Logic.{◌↔◌, ◌⊎◌, inl, inr, ⊎_elim}
 use Prim.Native.Nat.{ℕ, zero, suc, ◌^◌, ◌≤◌, ◌<◌}
 use native.Mathlib.Decide.{ℕ_discrete}
 use native.Mathlib.Omega.{arith}
 use borrow.Author.Tests.{lt-ltb, le-leb, ltb-true, leb-true, eq-eqb, ne_eqb, eqb-true, eqb-false, not-true}
-use lib.Dec.{eqb, ltb, leb}
+use lib.Dec.{eqb, leb}
 use lib.ListN.{length, get_or}
 use Rattle.base_lists.specs.Group.{class_of}
 use Rattle.base_lists.specs.Keep.{any_of}
@@ -27,8 +27,8 @@ use Rattle.day_rows.specs.declared.check.Takes.TheVariants as takes
 use Rattle.day_rows.specs.declared.row.Row.{Row}
 use Rattle.day_rows.proofs.CountLaws.{within}
 use Rattle.day_rows.proofs.KindLaws.{takes_given}
-use Rattle.day_rows.proofs.KeptLaws.{Kept, kept, good-each}
-use Rattle.day_rows.proofs.RowLaws.{Fits, number_of-row, row_of-number, row_fits, order}
+use Rattle.day_rows.proofs.KeptLaws.{kept, good-each}
+use Rattle.day_rows.proofs.RowLaws.{number_of-row, row_of-number, row_fits, order}
 use Rattle.reduce_union_find.specs.State.{join_all, root_of}
 use Rattle.reduce_union_find.proofs.Joins as joins
 use Rattle.reduce_union_find.proofs.Made.{never-refused}
@@ -36,8 +36,8 @@ use Rattle.reduce_union_find.proofs.Partition.{group_there, one_group}
 use Rattle.reduce_turn.specs.Turn.{kind_of, left_of, right_of, turned_row, turned_one, turned_rows, clashes_at, clash_of}
 use Rattle.reduce_added.specs.Groups.{join_one, same_choosers}
 use Rattle.reduce_added.specs.Groups as groups
-use Rattle.reduce_added.specs.Pairs.{pair_row, pairs_of, group_pairs, mandatory, mandatory_pairs}
-use Rattle.reduce_added.specs.Copies.{copy_to, copies_in, is_copied, copies_of, copies_all}
+use Rattle.reduce_added.specs.Pairs.{pair_row, pairs_of, mandatory, mandatory_pairs}
+use Rattle.reduce_added.specs.Copies.{copy_to, copies_in, is_copied, copies_of}
 use Rattle.reduce.specs.Reduction.{reduced_rows, search_list}
 use Rattle.reduce.proofs.Result.{Source, result_rises, result_member, result_has}
 use Rattle.reduce.proofs.Result as source

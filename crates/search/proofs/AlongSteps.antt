@@ -1,5 +1,5 @@
 -- The loop over the levels: what is ahead is the whole call.
-use mathlib.Core.Path.{◌≡◌, refl, sym, ◌∙◌, ap, ap₂}
+use mathlib.Core.Path.{◌≡◌, refl, sym, ◌∙◌, ap}
 use mathlib.Core.Bool.{Bool, true, false, cond}
 use mathlib.Core.List.{List, [], ◌∷◌}
 use Prim.Native.Nat.{ℕ, suc, ◌+◌, ◌-◌, ◌≤◌, ◌<◌, min}
@@ -11,7 +11,7 @@ use lib.ListN.{length, get_or, drop, drop_of_length-le}
 use lib.Seq.{drop-cons}
 use Rattle.base_lists.specs.First.{first_failing}
 use Rattle.base_lists.proofs.First.{first_le}
-use Rattle.day_rows.specs.Told.{done, Outcome, outcome}
+use Rattle.day_rows.specs.Told.{outcome}
 use Rattle.search_rules.specs.Walk.{Out, hit, dry, cut, turns_left}
 use Rattle.search_rules.proofs.Sound.{turns-left}
 use Rattle.search_rules.specs.Pass.{Lent, plan_of, sight_at, candidates_at, draw_after, pass_of}

@@ -1,7 +1,7 @@
 -- The search as a call, a law for each way through it.
 use mathlib.Core.Path.{◌≡◌, refl, sym, ◌∙◌, ap, ap₂}
 use mathlib.Core.Bool.{Bool, true, false, ◌&&◌, cond}
-use mathlib.Core.List.{List, [], ◌++◌, map}
+use mathlib.Core.List.{List, ◌++◌, map}
 use Prim.Native.Nat.{ℕ, ◌+◌, ◌-◌, ◌≤◌}
 use native.Mathlib.Omega.{arith}
 use borrow.Author.Tests.{le-leb, eq-eqb, eqb-true}
@@ -10,7 +10,7 @@ use lib.ListN.{length, replicate, length-append, length-map, length-replicate}
 use Rattle.base_lists.specs.Pool.{pad}
 use Rattle.base_lists.proofs.Below.{and_right}
 use Rattle.day_rows.specs.Check.{checked_tells}
-use Rattle.day_rows.specs.Told.{Told, done, refused, Verdict, good, refuse, refusal_tells, unless, and_then, Outcome, outcome, judged}
+use Rattle.day_rows.specs.Told.{done, refused, Verdict, good, refuse, refusal_tells, unless, and_then, Outcome, outcome}
 use Rattle.day_rows.specs.declared.check.Checked.{Checked}
 use Rattle.day_rows.specs.declared.check.Checked.TheVariants as checked
 use Rattle.day_rows.specs.declared.check.Counts.{Counts}
@@ -32,12 +32,12 @@ use Rattle.sets_analysis.specs.declared.analysis.Analyzed.{Analyzed}
 use Rattle.sets_analysis.specs.declared.analysis.Analyzed.TheVariants as analyzed
 use Rattle.search_map.specs.Calls.{map_full}
 use Rattle.sets_analysis.proofs.PoolsBack.{sets-back}
-use Rattle.search_rules.specs.Passes.{Ending, found, none, out, passes_from}
+use Rattle.search_rules.specs.Passes.{Ending, found, none, out}
 use Rattle.search_meaning.specs.Given.{Given, row_counts, sets_counts, plan_day, sets_day}
 use Rattle.search_meaning.specs.Judged.{day_judged, lent_judged}
-use Rattle.search_meaning.proofs.JudgedLaws.{DayKeeps, LentKeeps, day-keeps, lent-keeps}
-use Rattle.search_meaning.specs.Search.{sets_of, lowest_of, start_of, levels_above, sets_at, rows_counted, order_of, lent_at, pass_at, ending_of}
-use Rattle.search_meaning.specs.Calls.{Settled, settled_by, plan_left, sets_fit, search_judged, search_of}
+use Rattle.search_meaning.proofs.JudgedLaws.{DayKeeps, day-keeps, lent-keeps}
+use Rattle.search_meaning.specs.Search.{sets_of, lowest_of, start_of, sets_at, rows_counted, order_of, lent_at, pass_at, ending_of}
+use Rattle.search_meaning.specs.Calls.{Settled, plan_left, sets_fit, search_judged, search_of}
 use Rattle.search_meaning.specs.declared.settings.Settings.{Settings}
 use Rattle.search.specs.steps.Ground.{Ground, ground_of, rows_in, lent_in, pass_in, ending_in, planned_in, answered, call_in, PassReady}
 

@@ -1,5 +1,5 @@
 -- A pass that finds a plan finds one that passes the check, and a plan found as the Rust is found in full.
-use mathlib.Core.Path.{◌≡◌, refl, sym, ◌∙◌, ap}
+use mathlib.Core.Path.{◌≡◌, refl, ap}
 use mathlib.Core.Bool.{Bool, true, false, cond, false≢true}
 use mathlib.Core.List.{List}
 use Prim.Native.Nat.{ℕ}
@@ -8,7 +8,7 @@ use lib.ListN.{length}
 use Rattle.plan_check.specs.Day.{Day}
 use Rattle.plan_check.specs.Feasible.{feasible}
 use Rattle.search_map.specs.Map.{Map}
-use Rattle.search_rules.specs.Walk.{Sight, goal, over, on, hit, pass}
+use Rattle.search_rules.specs.Walk.{Sight, goal, over, on, hit}
 use Rattle.search_rules.proofs.Sound as sound
 use Rattle.search_rules.proofs.TwoSights as two
 use Rattle.search_rules.specs.Pass.{Lent, lent_of, choice_at, remaining_at, depth_at, asked_at, candidates_at, draw_after, plan_of, sight_full, sight_as_the_rust, sight_at, pass_of}

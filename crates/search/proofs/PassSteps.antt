@@ -1,25 +1,21 @@
 -- A pass of a day that is judged: what it is lent is what the call's passes are lent, and it is taken.
-use mathlib.Core.Path.{◌≡◌, refl, sym, ◌∙◌, ap, ap₂}
+use mathlib.Core.Path.{◌≡◌, ◌∙◌}
 use mathlib.Core.Bool.{Bool, true, false, ◌&&◌, cond}
-use mathlib.Core.List.{List, [], map}
-use Prim.Native.Nat.{ℕ, ◌≤◌, ◌<◌, min}
+use mathlib.Core.List.{List}
+use Prim.Native.Nat.{ℕ, ◌≤◌, min}
 use native.Mathlib.Omega.{arith}
 use borrow.Author.Tests.{le-leb, eq-eqb, leb-true}
 use lib.Dec.{leb}
 use lib.ListN.{length, get_or, take, drop, length-take, length-drop}
-use Rattle.base_lists.specs.Flat.{list_below}
 use Rattle.base_lists.specs.Pool.{window}
 use Rattle.base_lists.proofs.Below.{and_left, and_right}
 use Rattle.base_lists.proofs.Flat.{list_ext}
 use Rattle.day_rows.specs.Levels.{levels_in_range}
 use Rattle.plan_check.specs.Day.{Day}
 use Rattle.plan_check.specs.Feasible.{lengths_fit, shapes_fit}
-use Rattle.sets_analysis.specs.LevelList.{level_list}
 use Rattle.sets_analysis.specs.Calls.{pools, pools_full, sets_in}
 use Rattle.search_map.specs.Map.{Map, has_entry, start_of, length_of, looked_up}
-use Rattle.search_order.specs.Order.{pass_order}
 use Rattle.search_order.proofs.OrderLaws.{pass_permutation}
-use Rattle.search_rules.specs.Pass.{Lent, lent_of}
 use Rattle.search_pass.specs.steps.Call.{Leaves, left_by, pass_fits, pass_leaves}
 use Rattle.search.specs.steps.LevelPass.{list_taken, sets_listed, rows_found, lent_by}
 use Rattle.search.specs.steps.Ground.{Ground, ground_of, rows_in, lent_in, pass_in, PassReady}

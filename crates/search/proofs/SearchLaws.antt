@@ -1,25 +1,23 @@
 -- What the search's answers say: a plan that is answered passes the plan check, and turns and passes are
 -- within their limits.
 use mathlib.Core.Path.{◌≡◌, refl, sym, ◌∙◌, ap}
-use mathlib.Core.Bool.{Bool, true, false, cond}
+use mathlib.Core.Bool.{true}
 use mathlib.Core.List.{List}
-use Prim.Native.Nat.{ℕ, suc, ◌+◌, ◌-◌, ◌≤◌}
+use Prim.Native.Nat.{ℕ, ◌+◌, ◌-◌, ◌≤◌}
 use native.Mathlib.Omega.{arith}
 use borrow.Author.Tests.{le-leb, eq-eqb}
-use lib.Dec.{eqb, leb}
-use lib.ListN.{length, drop, take, length-drop}
+use lib.Dec.{leb}
+use lib.ListN.{length, drop, length-drop}
 use lib.Seq.{length-take-le}
 use Rattle.base_lists.specs.First.{first_failing}
-use Rattle.base_lists.specs.All.{all_of, all_at_most}
-use Rattle.day_rows.specs.Told.{Told, done, refused, Verdict, good, unless, and_then, Outcome, outcome, judged}
+use Rattle.day_rows.specs.Told.{done, refused, Verdict, good, unless, Outcome, outcome, judged}
 use Rattle.day_rows.proofs.ToldLaws.{done-is, refused-not-done, unless-done, then_done}
-use Rattle.plan_check.specs.Day.{Day}
 use Rattle.plan_check.specs.Feasible.{lengths_fit, shapes_fit, feasible, is_feasible}
-use Rattle.plan_check.specs.Check.{cell_fits, before_cells, cells_judged, plan_check_of}
+use Rattle.plan_check.specs.Check.{before_cells, plan_check_of}
 use Rattle.plan_check.proofs.CheckLaws.{plan-decides, before-rows, good-cells, cells_spared, check-answers}
-use Rattle.search_rules.specs.Walk.{hit, dry}
+use Rattle.search_rules.specs.Walk.{hit}
 use Rattle.search_rules.specs.Decided.{decided}
-use Rattle.search_rules.specs.Pass.{Lent, plan_of, pass_of}
+use Rattle.search_rules.specs.Pass.{plan_of}
 use Rattle.search_pass.proofs.DecidedLaws.{decided-length}
 use Rattle.search_rules.specs.Passes.{Ending, found, none, out, passes_from}
 use Rattle.search_rules.proofs.CallSettles.{last_limit, found-says}
@@ -28,7 +26,7 @@ use Rattle.search_meaning.specs.Given.{Given, plan_day, sets_day}
 use Rattle.search_meaning.specs.Judged.{day_judged, lent_judged}
 use Rattle.search_meaning.proofs.JudgedLaws.{DayKeeps, LentKeeps, day-keeps, lent-keeps}
 use Rattle.search_meaning.specs.Search.{start_of, levels_above, lent_at, pass_at, ending_of}
-use Rattle.search_meaning.specs.Calls.{Figures, figures, Settled, plan, no_plan, out_of_turns, settled_by, plan_left, sets_fit, search_judged, search_of}
+use Rattle.search_meaning.specs.Calls.{Figures, Settled, plan, no_plan, out_of_turns, settled_by, plan_left, sets_fit, search_judged, search_of}
 use Rattle.search_meaning.specs.declared.settings.Settings.{Settings}
 use Rattle.search.proofs.PassLaws.{hit-feasible}
 

@@ -2,7 +2,7 @@
 use mathlib.Core.Path.{◌≡◌, refl, sym, ◌∙◌, ap}
 use mathlib.Core.Bool.{Bool, true, false, ◌&&◌}
 use mathlib.Core.List.{List, []}
-use Prim.Native.Nat.{ℕ, ◌*◌, ◌≤◌, ◌<◌}
+use Prim.Native.Nat.{ℕ, ◌*◌, ◌≤◌}
 use borrow.Author.Tests.{eq-eqb, ne_eqb, eqb-true, leb-true}
 use lib.Dec.{eqb, leb}
 use lib.ListN.{length}
@@ -11,7 +11,7 @@ use Rattle.base_lists.proofs.Below.{and_left, and_right}
 use Rattle.day_rows.specs.Check.{counts_in_range, rows_judged}
 use Rattle.day_rows.specs.declared.check.Counts.{Counts}
 use Rattle.day_rows.specs.declared.check.Takes.TheVariants.{Scheduling}
-use Rattle.day_rows.specs.Told.{Verdict, good, refuse, unless, and_then}
+use Rattle.day_rows.specs.Told.{good, refuse, unless, and_then}
 use Rattle.day_rows.proofs.ToldLaws.{unless-done, then_done}
 use Rattle.day_rows.proofs.CountLaws.{Within, within}
 use Rattle.day_rows.specs.Levels.{levels_in_range, levels_rise, last_level}

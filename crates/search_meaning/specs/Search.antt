@@ -1,5 +1,5 @@
 -- The search of a day that isn't refused: its sets, its start, its passes.
-use Rattle.std.specs.Prelude.{Bool, cond, List, [], map, ℕ, leb, length, get_or, drop}
+use Rattle.std.specs.Prelude.{cond, List, [], map, ℕ, leb, length, get_or, drop}
 use Rattle.base_lists.specs.First.{first_failing}
 use Rattle.base_lists.specs.Flat.{list_below}
 use Rattle.day_rows.specs.Levels.{last_level}

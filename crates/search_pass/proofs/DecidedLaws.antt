@@ -6,7 +6,6 @@ use Prim.Native.Nat.{ℕ, ◌≤◌, ◌<◌}
 use native.Mathlib.Omega.{arith}
 use lib.ListN.{length, get_or, set, replicate, length-replicate, length-set, get_or-replicate}
 use lib.Seq.{get_or-set_other, set-set, set-get_or}
-use Rattle.search_candidates.specs.Allow.{undecided}
 use Rattle.search_rules.specs.Decided.{decided}
 
 -- an entry for each choice that there may be

@@ -6,7 +6,7 @@ use Prim.Native.Nat.{ℕ, ◌+◌, ◌*◌, ◌≤◌, ◌<◌}
 use native.Mathlib.Omega.{arith}
 use borrow.Author.Tests.{le-leb, lt-ltb, eq-eqb}
 use lib.Dec.{ltb}
-use lib.ListN.{length, set, take, drop}
+use lib.ListN.{length, drop}
 use Rattle.base_lists.specs.Pool.{window}
 use Rattle.search_candidates.specs.Loads.{Loads}
 use Rattle.search_candidates.specs.Bucket.{bucket_of, draws_one, Written, written, bucket_fits, fill_of}

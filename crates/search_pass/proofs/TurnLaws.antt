@@ -12,7 +12,7 @@ use lib.Seq.{drop-cons}
 use Rattle.base_lists.specs.Keep.{sum_over}
 use Rattle.base_lists.specs.Pool.{window}
 use Rattle.base_lists.proofs.Below.{and_left, and_right}
-use Rattle.search_rules.specs.Walk.{Sight, goal, over, on, Out, hit, dry, cut, opened, used, walk, pass}
+use Rattle.search_rules.specs.Walk.{Sight, goal, over, on, Out, hit, dry, cut, opened, used, walk}
 use Rattle.search_rules.proofs.WalkLaws.{opened-new, opened-old, used-new, used-old, walk-goal, walk-over, walk-cut, walk_close, walk-back, walk-down, pass-walk}
 use Rattle.search_order.proofs.OrderLaws.{permutation_length, below, distinct}
 use Rattle.search_candidates.specs.Loads.{Loads, loads_of}

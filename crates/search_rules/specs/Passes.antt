@@ -1,5 +1,5 @@
 -- A call is passes one after the other, each at its limit, with the turns that are left.
-use Rattle.std.specs.Prelude.{Bool, true, false, List, [], ◌∷◌, ℕ, suc, ◌+◌, ◌-◌, min, leb}
+use Rattle.std.specs.Prelude.{true, false, List, [], ◌∷◌, ℕ, suc, ◌+◌, ◌-◌, min, leb}
 use Rattle.search_rules.specs.Walk.{Out, hit, dry, cut}
 
 -- how a call ends, with the turns left, the pass (from 0) and its limit: with a plan's places, last first;

@@ -1,9 +1,8 @@
 -- The bound, a law for each way through the code.
-use mathlib.Core.Path.{◌≡◌, refl, sym, ◌∙◌, ap, ap₂}
+use mathlib.Core.Path.{◌≡◌, refl, sym, ◌∙◌, ap}
 use mathlib.Core.Bool.{Bool, true, false, ◌&&◌, ◌||◌, cond}
-use mathlib.Core.List.{List, [], ◌∷◌}
+use mathlib.Core.List.{List, ◌∷◌}
 use Prim.Native.Nat.{ℕ, ◌+◌, ◌≤◌, ◌<◌, min}
-use native.Mathlib.Numerals.{add-one}
 use native.Mathlib.Omega.{arith}
 use borrow.Author.Tests.{le-leb, lt-leb}
 use lib.Dec.{leb}
@@ -14,8 +13,6 @@ use Rattle.base_lists.proofs.Keep.{drop-at-place}
 use Rattle.base_choice_sets.specs.Sets.{size_of}
 use Rattle.sets_analysis.specs.Kept.{CriticalSet, critical_set, no_set}
 use Rattle.sets_analysis.specs.Bound.{is_above, is_large, lowers, lowered_to}
-use Rattle.sets_analysis.specs.Calls.{sets_in}
-use Rattle.sets_analysis.proofs.PoolSteps.{sets-length, sets-at}
 
 pub above : (level set_level members : ℕ) → level ≤ set_level → is_above level (critical_set set_level members) ≡ true
 unfolding is_above

@@ -1,11 +1,11 @@
 -- The analysis as a call, a law for each way through its functions.
 use mathlib.Core.Path.{◌≡◌, refl, sym, ◌∙◌, ap, ap₂}
-use mathlib.Core.Bool.{Bool, true, false, ◌&&◌, cond, false≢true}
+use mathlib.Core.Bool.{Bool, true, false, ◌&&◌, false≢true}
 use mathlib.Core.List.{List, []}
 use Prim.Native.Nat.{ℕ, ◌*◌, ◌≤◌, ◌<◌}
 use native.Mathlib.Omega.{arith}
 use borrow.Author.Tests.{le-leb, lt-leb, eq-eqb, ne_eqb, eqb-true}
-use lib.Dec.{eqb, leb}
+use lib.Dec.{eqb}
 use lib.ListN.{length}
 use Rattle.base_lists.specs.Flat.{list_below}
 use Rattle.base_lists.proofs.Below.{and_left, and_right}
@@ -24,7 +24,7 @@ use Rattle.sets_analysis.specs.declared.analysis.Analysis.TheVariants as asked
 use Rattle.day_rows.specs.Check.{checked_tells}
 use Rattle.sets_analysis.specs.steps.Pools.{Lent, Fits, KeptIn, cleared_past, simplified_if}
 use Rattle.sets_analysis.proofs.PoolSteps.{sets-length, filled-by}
-use Rattle.sets_analysis.proofs.DaySteps.{Few, counts-known}
+use Rattle.sets_analysis.proofs.DaySteps.{counts-known}
 
 -- ---- the day's refusals
 

@@ -3,16 +3,15 @@ use mathlib.Core.Path.{◌≡◌, refl, sym, ◌∙◌, ap}
 use mathlib.Core.Bool.{Bool, true, false, ◌&&◌}
 use mathlib.Core.List.{List}
 use Prim.Native.Nat.{ℕ, ◌+◌, ◌*◌, ◌-◌, ◌≤◌, ◌<◌}
-use native.Mathlib.Nat.{mul-le-mul_right, mul-le-mul_left, mul_comm, le_trans}
-use native.Mathlib.Omega.{arith}
-use borrow.Author.Tests.{lt-ltb, le-ltb, le-leb, lt-leb, eq-eqb, ne_eqb, leb-true}
-use lib.Dec.{eqb, ltb, leb}
+use native.Mathlib.Nat.{mul-le-mul_right, mul-le-mul_left, le_trans}
+use borrow.Author.Tests.{le-leb, lt-leb, eq-eqb, ne_eqb, leb-true}
+use lib.Dec.{eqb, leb}
 use lib.ListN.{length, get_or, drop}
 use Rattle.base_lists.specs.Keep.{any_of}
 use Rattle.base_lists.proofs.Below.{and_left, and_right}
 use Rattle.base_lists.proofs.Keep.{any_here, any_on, any_none}
 use Rattle.day_rows.specs.Levels.{levels_in_range}
-use Rattle.sets_analysis.specs.SetsDay.{SetsDay, day_of, sets_counts_in_range, sets_lengths_fit}
+use Rattle.sets_analysis.specs.SetsDay.{SetsDay, sets_counts_in_range, sets_lengths_fit}
 use Rattle.sets_analysis.specs.declared.day.SetsCounts.{SetsCounts}
 
 -- ---- counts

@@ -1,21 +1,21 @@
 -- Keeping sets, a law for each way through the code.
 use mathlib.Core.Path.{◌≡◌, refl, sym, ◌∙◌, ap, ap₂}
-use mathlib.Core.Bool.{Bool, true, false, ◌&&◌, ◌||◌, not, cond}
-use mathlib.Core.List.{List, [], ◌∷◌, ◌++◌, append-nil}
+use mathlib.Core.Bool.{Bool, true, false, ◌||◌, cond}
+use mathlib.Core.List.{List, [], ◌∷◌, ◌++◌}
 use Prim.Native.Nat.{ℕ, zero, suc, ◌+◌, ◌*◌, ◌-◌, ◌≤◌, ◌<◌}
 use native.Mathlib.Nat.{mul-le-mul_right, le_refl, le_trans, suc-mul}
 use native.Mathlib.Numerals.{add-one}
 use native.Mathlib.Omega.{arith}
 use borrow.Author.Tests.{lt-ltb, le-ltb, le-leb, lt-leb, eq-eqb, ne_eqb}
 use lib.Arith.{lt_of_le-ne}
-use lib.Dec.{eqb, ltb, leb}
-use lib.ListN.{length, get_or, set, length-append, length-set}
+use lib.Dec.{leb}
+use lib.ListN.{length, get_or, set, length-append}
 use Rattle.base_lists.specs.Below.{sum_below}
 use Rattle.base_lists.specs.Flat.{list_below, join_below}
 use Rattle.base_lists.specs.Keep.{any_of}
 use Rattle.base_lists.proofs.Flat.{list-more, join_more}
 use Rattle.base_lists.proofs.SumBelow.{sum_ext}
-use Rattle.base_choice_sets.specs.Sets.{has, set_of, within, same_choices, with_choice}
+use Rattle.base_choice_sets.specs.Sets.{set_of, within, same_choices, with_choice}
 use Rattle.base_choice_sets.proofs.SetLaws.{has-set, with_next, set_skip}
 use Rattle.sets_analysis.specs.SetsDay.{SetsDay, preference_of}
 use Rattle.sets_analysis.specs.Kept.{CriticalSet, critical_set, covered_by, candidate_of, level_down, candidates, min_sum, room_of, skipped, kept_from, kept_sets, same_set, stays_beside}

@@ -4,14 +4,14 @@ use mathlib.Core.List.{List, [], ◌∷◌, ◌++◌, map, append-nil}
 use Prim.Native.Nat.{ℕ, zero, suc, ◌+◌, ◌-◌, ◌≤◌, ◌<◌}
 use native.Mathlib.Omega.{arith}
 use borrow.Rule.Slice.PartMut.{put_mid, mid_of, Post-is, mid_len}
-use lib.ListN.{length, get_or, take, drop, set, replicate}
+use lib.ListN.{length, get_or, take, set, replicate}
 use lib.Seq.{get_or-set_same, get_or-set_other, get_or-take, length-take-le, drop-length}
 use Rattle.base_lists.specs.Flat.{list_below}
 use Rattle.base_lists.specs.Pool.{pad}
 use Rattle.base_lists.proofs.Flat.{list-more, length-list, get_d_list, list_ext, list_back}
 use Rattle.base_lists.proofs.Group.{map-append}
 use Rattle.sets_analysis.specs.Kept.{CriticalSet, critical_set, no_set}
-use Rattle.sets_analysis.specs.Calls.{Pools, pools, sets_in, filled}
+use Rattle.sets_analysis.specs.Calls.{pools, sets_in, filled}
 use Rattle.sets_analysis.specs.steps.Pools.{cleared_past}
 
 module _ (count : ℕ) (masks levels : List ℕ) where

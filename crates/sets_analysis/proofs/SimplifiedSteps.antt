@@ -1,17 +1,16 @@
 -- Simplifying, a law for each way through the code.
 use mathlib.Core.Path.{◌≡◌, refl, sym, ◌∙◌, ap, ap₂}
-use mathlib.Core.Bool.{Bool, true, false, cond}
+use mathlib.Core.Bool.{Bool, true, false}
 use mathlib.Core.List.{List, [], ◌∷◌, ◌++◌, append-nil}
 use Prim.Native.Nat.{ℕ, zero, suc, ◌+◌, ◌-◌, ◌≤◌, ◌<◌}
 use native.Mathlib.Omega.{arith}
 use borrow.Author.Tests.{lt-ltb, le-ltb}
-use lib.Dec.{ltb}
 use lib.ListN.{length, get_or, set, length-set}
 use lib.Seq.{get_or-set_other}
 use Rattle.base_lists.specs.Flat.{list_below}
 use Rattle.base_lists.specs.Keep.{keep}
 use Rattle.base_lists.proofs.Keep.{keep_append}
-use Rattle.sets_analysis.specs.Kept.{CriticalSet, critical_set, no_set, stays_beside, dropped_at, simplified_from, simplified}
+use Rattle.sets_analysis.specs.Kept.{CriticalSet, critical_set, stays_beside, dropped_at, simplified_from, simplified}
 use Rattle.sets_analysis.specs.Calls.{sets_in}
 use Rattle.sets_analysis.specs.steps.Pools.{Lent, simplified_if}
 use Rattle.sets_analysis.proofs.PoolSteps.{sets-length, sets-at, sets_more, sets-put}

@@ -1,5 +1,5 @@
 -- Module 4: the bound.
-use Rattle.std.specs.Prelude.{Bool, true, false, ◌&&◌, cond, List, [], ◌∷◌, ℕ, min, leb}
+use Rattle.std.specs.Prelude.{Bool, ◌&&◌, cond, List, [], ◌∷◌, ℕ, min, leb}
 use Rattle.base_lists.specs.All.{all_of}
 use Rattle.base_lists.specs.Keep.{keep, any_of}
 use Rattle.base_choice_sets.specs.Sets.{size_of}

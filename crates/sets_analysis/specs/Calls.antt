@@ -1,5 +1,5 @@
 -- The analysis as a call: its refusals, lowest number first, its answer and its pools.
-use Rattle.std.specs.Prelude.{Bool, true, false, ◌&&◌, cond, List, [], map, ℕ, eqb, leb, length, get_or}
+use Rattle.std.specs.Prelude.{Bool, ◌&&◌, cond, List, [], map, ℕ, eqb, leb, length, get_or}
 use Rattle.base_lists.specs.Flat.{list_below}
 use Rattle.base_lists.specs.Pool.{pad}
 use Rattle.day_rows.specs.Told.{Told, done, Verdict, good, refuse, refusal_tells, unless, Outcome, outcome, judged}

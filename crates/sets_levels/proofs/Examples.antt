@@ -1,8 +1,6 @@
 -- Small days, computed from the definitions.
 use mathlib.Core.Path.{◌≡◌, refl}
-use mathlib.Core.Bool.{Bool}
-use mathlib.Core.List.{List, [], ◌∷◌}
-use Prim.Native.Nat.{ℕ}
+use mathlib.Core.List.{[], ◌∷◌}
 use Rattle.base_lists.specs.All.{all_of}
 use Rattle.base_lists.specs.Below.{one, all_below, count_below, sum_below}
 use Rattle.base_lists.specs.Flat.{list_below, join_below}
@@ -10,7 +8,7 @@ use Rattle.base_lists.specs.Keep.{keep, any_of}
 use Rattle.base_choice_sets.specs.Sets.{has, set_of, size_of, within, same_choices}
 use Rattle.day_rows.specs.Levels.{last_level}
 use Rattle.sets_analysis.specs.SetsDay.{SetsDay, day_of, preference_of}
-use Rattle.sets_analysis.specs.Kept.{CriticalSet, critical_set, candidate_of, level_down, candidates, min_sum, room_of, covered_by, skipped, kept_from, kept_sets, same_set, stays_beside, dropped_at, simplified_from, simplified}
+use Rattle.sets_analysis.specs.Kept.{critical_set, candidate_of, level_down, candidates, min_sum, room_of, covered_by, skipped, kept_from, kept_sets, same_set, stays_beside, dropped_at, simplified_from, simplified}
 use Rattle.sets_analysis.specs.Bound.{is_above, is_large, lowers, lowered_to, bound_of}
 use Rattle.sets_analysis.specs.LevelList.{by_size, minimal_from, level_list}
 

@@ -22,7 +22,7 @@ use Rattle.reduce.specs.declared.Reduction.{Reduction}
 use Rattle.reduce.specs.declared.Reduced.{Reduced}
 use Rattle.reduce.specs.declared.Reduced.TheVariants as reduced_case
 use Rattle.reduce.proofs.Lists.{result_lists}
-use Rattle.text_day.specs.Prepared.{Prepared, ready, clash, reduced_to}
+use Rattle.text_day.specs.Prepared.{ready, clash, reduced_to}
 use Rattle.text_day.specs.Prepared as prepared
 use Rattle.text_day.specs.steps.FileGiven.{FileGiven}
 

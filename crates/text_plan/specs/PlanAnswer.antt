@@ -1,6 +1,6 @@
 -- What the program `plan` answers to a file: 01's 'Day file and plan program (added)' as a definition.
 use Rattle.std.specs.Prelude.{false, List, [], ℕ, length, replicate}
-use Rattle.day_rows.specs.Told.{Told, Outcome}
+use Rattle.day_rows.specs.Told.{Told}
 use Rattle.day_rows.specs.Told as told
 use Rattle.reduce.specs.Reduction.{reduced_rows, search_list}
 use Rattle.sets_analysis.specs.declared.analysis.Analysis.TheVariants.{Simplified}

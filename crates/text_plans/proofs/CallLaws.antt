@@ -5,7 +5,7 @@ use Prim.Native.Nat.{ℕ, ◌≤◌, ◌<◌}
 use borrow.Author.Tests.{le-leb, lt-leb, eq-eqb, ne_eqb}
 use lib.ListN.{length, replicate}
 use Rattle.base_lists.specs.Pool.{pad}
-use Rattle.day_rows.specs.Told.{Told, done, refused, good, Outcome, outcome}
+use Rattle.day_rows.specs.Told.{done, refused, good, Outcome, outcome}
 use Rattle.day_rows.specs.Told as verdict
 use Rattle.day_rows.specs.declared.check.Takes.TheVariants as takes
 use Rattle.day_rows.proofs.CountLaws.{within}

@@ -1,6 +1,6 @@
 -- The places that each choice may still take. A domain is a set of places, as one number: a slot by its
 -- number, omission by the number after the last slot.
-use Rattle.std.specs.Prelude.{◌≡◌, Bool, true, ◌&&◌, ◌||◌, not, cond, List, ℕ, zero, suc, ◌+◌, ◌-◌, ◌<◌, ◌^◌, eqb, ltb, leb, length, get_or, set}
+use Rattle.std.specs.Prelude.{◌≡◌, Bool, true, ◌&&◌, ◌||◌, not, cond, List, ℕ, zero, suc, ◌<◌, eqb, ltb, leb, length, get_or, set}
 use Rattle.plan_check.specs.Plan.{slot_of}
 use Rattle.base_choice_sets.specs.Sets.{has, set_of, size_of}
 

@@ -1,6 +1,6 @@
 -- What the walk looks at before it goes on from a start: what the rules leave of the domains, and the places
 -- that are open to the next choice.
-use Rattle.std.specs.Prelude.{Bool, true, not, cond, List, ℕ, zero, suc, ◌+◌, eqb, leb, get_or, set, replicate}
+use Rattle.std.specs.Prelude.{Bool, not, cond, List, ℕ, zero, suc, ◌+◌, eqb, leb, get_or, set, replicate}
 use Rattle.base_lists.specs.Below.{all_below}
 use Rattle.day_rows.specs.declared.check.Counts.{Counts}
 use Rattle.plan_check.specs.Plan.{slot_of}

@@ -1,5 +1,5 @@
 -- A walk against a budget of turns and a page: where it stands after so many of its events.
-use Rattle.std.specs.Prelude.{Bool, true, false, ◌&&◌, ◌||◌, cond, List, [], ◌∷◌, ℕ, zero, suc, ◌+◌, ◌-◌, eqb, ltb, leb}
+use Rattle.std.specs.Prelude.{Bool, true, false, ◌||◌, cond, List, [], ◌∷◌, ℕ, ◌+◌, ◌-◌, eqb, leb}
 use Rattle.list_nodes.specs.steps.Walk.{put_plan}
 use Rattle.list_nodes.specs.steps.Alive.{Event, visit, plan}
 

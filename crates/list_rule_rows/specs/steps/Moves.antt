@@ -1,5 +1,5 @@
 -- A domain's slots moved up or down within the day's slots, and omission put beside them.
-use Rattle.std.specs.Prelude.{Bool, ◌&&◌, ◌||◌, ℕ, ◌+◌, ◌-◌, eqb, ltb, leb}
+use Rattle.std.specs.Prelude.{◌&&◌, ◌||◌, ℕ, ◌+◌, ◌-◌, eqb, ltb, leb}
 use Rattle.base_choice_sets.specs.Sets.{has, set_of}
 
 -- the slots of a domain, each moved so much higher

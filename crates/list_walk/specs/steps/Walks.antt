@@ -1,5 +1,5 @@
 -- What the functions of the walk hand on to each other.
-use Rattle.std.specs.Prelude.{◌≡◌, ℕ, ◌+◌, ◌-◌, ◌*◌, ◌^◌, ◌<◌, ◌≤◌, Bool, true, List, length, take, slice_index}
+use Rattle.std.specs.Prelude.{◌≡◌, ℕ, ◌+◌, ◌-◌, ◌*◌, ◌^◌, ◌<◌, ◌≤◌, true, List, length, take, slice_index}
 use Rattle.plan_check.specs.Day.{Day}
 use Rattle.plan_check.specs.steps.Sums.{Sums}
 use Rattle.base_choice_sets.specs.Sets.{has}
