@@ -80,7 +80,8 @@ fn omission_alone(slots: usize, domain: u64) -> u64
 fn own_offset_leaves(slots: usize, domain: u64, extra: u16) -> u64
     ensures { result ≡ cond (eqb extra 32768) domain (both_places domain (only_place slots)) }
 {
-    if extra == 32_768 {
+    let holds = extra == 32_768;
+    if holds {
         return domain;
     }
     omission_alone(slots, domain)

@@ -33,7 +33,7 @@ fn text_pool() -> [u8; LONGEST_TEXT]
     [0; LONGEST_TEXT]
 }
 
-// Room for an argument; of a longer one its front is read.
+// Room for an argument; a longer one is no number.
 fn argument_pool() -> [u8; 4096]
     ensures { 4096 ≡ length result }
 {
@@ -46,7 +46,7 @@ fn argument(rt: &impl Env, at: usize, default: u64) -> Number {
     let count = rt.arg(at, &mut bytes);
     match count {
         Ok(count) => number_of(&bytes[..count]),
-        Err(FillError::TooLong) => number_of(&bytes),
+        Err(FillError::TooLong) => Number::None,
         Err(FillError::NotPresent) => Number::Value(default),
     }
 }

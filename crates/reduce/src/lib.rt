@@ -61,7 +61,8 @@ fn reduce_rows(counts: Counts, rows: &[u64], pool: &mut [u64]) -> Reduced
     ensures { outcome (reduced_tells result) pool.new ≡ reduction_of counts rows.now }
 {
     let total = expand::expand(counts, rows, pool);
-    if total > MOST_ROWS {
+    let too_many = total > MOST_ROWS;
+    if too_many {
         base_pools::clear_numbers(pool);
         return Reduced::Refused(Refusal::TooMany);
     }

@@ -22,7 +22,8 @@ fn names_left(kind: u16) -> bool
 fn names_right(kind: u16) -> bool
     ensures { result ≡ names_right kind }
 {
-    if kind < Kind::CHOICES_ARE_IN_SAME_SLOT {
+    let is_below = kind < Kind::CHOICES_ARE_IN_SAME_SLOT;
+    if is_below {
         return false;
     }
     kind <= Kind::CHOICES_HAVE_OFFSET

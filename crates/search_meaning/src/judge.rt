@@ -100,7 +100,9 @@ pub fn judge_day(
         levels.now preferences.now rows.now map whole.now [] [] in
         checked_tells result ≡ day_judged given plan.now }
 {
-    if !in_range(counts) {
+    let fits = in_range(counts);
+    let is_refused = !fits;
+    if is_refused {
         return Checked::Refused(Refusal::Count);
     }
     if !day_lengths(counts, mins, maxs, optional, levels, preferences, plan) {

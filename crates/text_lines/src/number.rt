@@ -33,7 +33,8 @@ pub fn number_of(bytes: &[u8]) -> Number
             return Number::None;
         }
         let digit = (bytes[i] - 48) as u64;
-        if 1_844_674_407_370_955_161 < value {
+        let is_large = 1_844_674_407_370_955_161 < value;
+        if is_large {
             return Number::None;
         }
         if 18_446_744_073_709_551_615 - 10 * value < digit {

@@ -5,11 +5,11 @@ use lib.Seq.{length-take-le}
 use Rattle.reduce.proofs.Calling.{too_many, all_reduced}
 use Rattle.reduce.proofs.reduce_rows.Goals as goal
 
-pub returns-then-total-gt-MOST_ROWS : goal.returns-then-total-gt-MOST_ROWS
-returns-then-total-gt-MOST_ROWS c = too_many _ _ _ _ _ c.expand-total.ensures c.if-total-gt-MOST_ROWS.true (c.pool-1.given ∙ c.requires.pool-is) c.clear_numbers.ensures
+pub returns-then-too_many : goal.returns-then-too_many
+returns-then-too_many c = too_many _ _ _ _ _ c.expand-total.ensures c.if-too_many.true (c.pool-1.given ∙ c.requires.pool-is) c.clear_numbers.ensures
 
 pub slice_bounds-sort_unique-end-2 : goal.slice_bounds-sort_unique-end-2
 slice_bounds-sort_unique-end-2 c = sym (length-take-le c.expand-total.result c.expand-total.new.pool (omega (arith, c.pool-1.given, c.requires.pool-is)))
 
 pub returns : goal.returns
-returns c = all_reduced _ _ _ _ _ c.expand-total.ensures c.if-total-gt-MOST_ROWS.false c.requires.pool-is _ _ _ _ c.sort_unique-count.ensures c.clashes-clash.ensures (c.pool-1.given ∙ c.requires.pool-is) c.clear_numbers-2.ensures
+returns c = all_reduced _ _ _ _ _ c.expand-total.ensures c.if-too_many.false c.requires.pool-is _ _ _ _ c.sort_unique-count.ensures c.clashes-clash.ensures (c.pool-1.given ∙ c.requires.pool-is) c.clear_numbers-2.ensures

@@ -23,17 +23,17 @@ pub overflow_cast-digit : goal.overflow_cast-digit
 overflow_cast-digit c =
     let r = digit_range _ (sym c.is_digit.ensures ∙ c.if-not-is_digit.false) in omega arith
 
-pub returns-then-value-gt1844674407370955161 : goal.returns-then-value-gt1844674407370955161
-returns-then-value-gt1844674407370955161 c =
-    reading_large c.loop-i.invariant c.loop-i-test.true (omega (arith, c.if-value-gt1844674407370955161.true))
+pub returns-then-is_large : goal.returns-then-is_large
+returns-then-is_large c =
+    reading_large c.loop-i.invariant c.loop-i-test.true (omega (arith, c.if-is_large.true))
 
 pub overflow_mul-value : goal.overflow_mul-value
 overflow_mul-value c =
-    omega (arith, c.if-value-gt1844674407370955161.false)
+    omega (arith, c.if-is_large.false)
 
 pub overflow_sub-value : goal.overflow_sub-value
 overflow_sub-value c =
-    omega (arith, c.if-value-gt1844674407370955161.false)
+    omega (arith, c.if-is_large.false)
 
 pub returns-then-value-digit : goal.returns-then-value-digit
 returns-then-value-digit c =
@@ -41,15 +41,15 @@ returns-then-value-digit c =
 
 pub overflow_mul-value-in-loop-i : goal.overflow_mul-value-in-loop-i
 overflow_mul-value-in-loop-i c =
-    omega (arith, c.if-value-gt1844674407370955161.false)
+    omega (arith, c.if-is_large.false)
 
 pub overflow_add-value : goal.overflow_add-value
 overflow_add-value c =
-    omega (arith, c.if-value-gt1844674407370955161.false, c.if-value-digit.false)
+    omega (arith, c.if-is_large.false, c.if-value-digit.false)
 
 pub loop-i-preserved : goal.loop-i-preserved
 loop-i-preserved c =
-    reading_digit c.loop-i.invariant c.loop-i-test.true (sym c.is_digit.ensures ∙ c.if-not-is_digit.false) (omega (arith, c.if-value-digit.false, c.if-value-gt1844674407370955161.false))
+    reading_digit c.loop-i.invariant c.loop-i-test.true (sym c.is_digit.ensures ∙ c.if-not-is_digit.false) (omega (arith, c.if-value-digit.false, c.if-is_large.false))
 
 pub returns : goal.returns
 returns c =
