@@ -19,31 +19,19 @@ pub fn wide(byte: u8) -> usize
 pub fn clear_bytes(bytes: &mut [u8])
     ensures { bytes.new ≡ replicate (length bytes.old) 0 }
 {
-    let mut i = 0;
-    while i < bytes.len() {
-        bytes[i] = 0;
-        i += 1;
-    }
+    bytes.fill(0);
 }
 
 // Zeros in the whole of a pool of two bytes an entry, or of its part.
 pub fn clear_words(words: &mut [u16])
     ensures { words.new ≡ replicate (length words.old) 0 }
 {
-    let mut i = 0;
-    while i < words.len() {
-        words[i] = 0;
-        i += 1;
-    }
+    words.fill(0);
 }
 
 // Zeros in the whole of a pool of 64-bit numbers, as rows are, or of its part.
 pub fn clear_numbers(numbers: &mut [u64])
     ensures { numbers.new ≡ replicate (length numbers.old) 0 }
 {
-    let mut i = 0;
-    while i < numbers.len() {
-        numbers[i] = 0;
-        i += 1;
-    }
+    numbers.fill(0);
 }

@@ -8,7 +8,6 @@ use lib.ListN.{get_or-eq_default}
 use Rattle.base_lists.specs.Below.{all_below}
 use Rattle.base_lists.proofs.Below.{all-each}
 use Rattle.day_rows.specs.Kinds.{kinds, columns_of, line}
-use Rattle.day_rows.specs.steps.Lines.{on_left, on_right, on_extra}
 use Rattle.day_rows.specs.Check.{takes_part, column_holds}
 use Rattle.day_rows.specs.declared.table.Part.{Part}
 use Rattle.day_rows.specs.declared.table.Part.TheVariants as part
@@ -48,22 +47,10 @@ over_lines test agree kind =
     ]
 
 -- a line that a call takes passes what the sixteen lines pass
-on_line : (test : Columns → Bool) → all_below 16 (λ kind. or_refused (columns_of kind).0 (test (columns_of kind))) ≡ true
+pub on_line : (test : Columns → Bool) → all_below 16 (λ kind. or_refused (columns_of kind).0 (test (columns_of kind))) ≡ true
     → (t : Takes) (kind : ℕ) {columns : Columns} → columns ≡ columns_of kind → takes_part t columns.0 ≡ true → test columns ≡ true
 on_line test agree t kind {columns} e h =
     passed t columns.0 (test columns) h (ap (λ (c : Columns). or_refused c.0 (test c)) e ∙ over_lines test agree kind)
-
-pub left-named : (t : Takes) (kind : ℕ) {columns : Columns} → columns ≡ columns_of kind → takes_part t columns.0 ≡ true → on_left columns.1 ≡ true
-unfolding all_below columns_of kinds
-left-named = on_line (λ columns. on_left columns.1) refl
-
-pub right-named : (t : Takes) (kind : ℕ) {columns : Columns} → columns ≡ columns_of kind → takes_part t columns.0 ≡ true → on_right columns.2 ≡ true
-unfolding all_below columns_of kinds
-right-named = on_line (λ columns. on_right columns.2) refl
-
-pub extra-named : (t : Takes) (kind : ℕ) {columns : Columns} → columns ≡ columns_of kind → takes_part t columns.0 ≡ true → on_extra columns.3 ≡ true
-unfolding all_below columns_of kinds
-extra-named = on_line (λ columns. on_extra columns.3) refl
 
 -- a column's test, told of the number's column
 pub column_is : (counts : Counts) (names : Name) {value column : ℕ} {held b : Bool} → held ≡ column_holds counts names value → value ≡ column → held ≡ b

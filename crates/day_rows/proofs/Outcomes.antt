@@ -1,5 +1,5 @@
 -- No two outcomes fit: each public promise of this crate settles the answer for every input.
-use mathlib.Core.Path.{◌≡◌, refl, sym, ◌∙◌, ap}
+use mathlib.Core.Path.{◌≡◌}
 use mathlib.Core.Bool.{Bool}
 use mathlib.Core.List.{List}
 use Prim.Native.Nat.{ℕ}
@@ -7,15 +7,14 @@ use Rattle.base_lists.proofs.Outcome.{no_two}
 use Rattle.day_rows.specs.Op.{is_op}
 use Rattle.day_rows.specs.Refusal.{number_of}
 use Rattle.day_rows.specs.Row.{row_of, row_number, plain_row}
-use Rattle.day_rows.specs.Check.{row_keeps, checked_tells, rows_judged, counts_in_range, check_of}
-use Rattle.day_rows.specs.Told.{done, refused, Verdict}
+use Rattle.day_rows.specs.Check.{row_keeps, rows_judged, counts_in_range, check_of}
+use Rattle.std.specs.Prelude.{Result}
+use Rattle.day_rows.specs.Told.{tells}
 use Rattle.day_rows.specs.declared.refusal.Refusal.{Refusal}
 use Rattle.day_rows.specs.declared.row.Row.{Row}
 use Rattle.day_rows.specs.declared.check.Counts.{Counts}
 use Rattle.day_rows.specs.declared.check.Takes.{Takes}
-use Rattle.day_rows.specs.declared.check.Checked.{Checked}
-use Rattle.day_rows.specs.declared.check.Checked.TheVariants.{Good, Refused}
-use Rattle.day_rows.proofs.ToldLaws.{refusal_of, refusal-back, one_answer}
+use Rattle.day_rows.proofs.ToldLaws.{one_told}
 
 pub one-refusal-number : (refusal : Refusal) {a b : ℕ} → a ≡ number_of refusal → b ≡ number_of refusal → a ≡ b
 one-refusal-number refusal = no_two
@@ -43,23 +42,10 @@ one-row-keeps counts takes number = no_two
 pub one-counts_in-range : (counts : Counts) (takes : Takes) {a b : Bool} → a ≡ counts_in_range counts takes → b ≡ counts_in_range counts takes → a ≡ b
 one-counts_in-range counts takes = no_two
 
--- the row check's answer, read back from what it tells
-abbrev pub checked_of : Verdict → Checked
-checked_of (done value) = Good
-checked_of (refused number carried) = Refused (refusal_of number carried)
+pub one-check_of-each-row : (counts : Counts) (takes : Takes) (rows : List ℕ) {a b : Result (Unit {0}) Refusal}
+    → tells a ≡ rows_judged counts takes rows → tells b ≡ rows_judged counts takes rows → a ≡ b
+one-check_of-each-row counts takes rows = one_told
 
-pub checked_back : (answer : Checked) → checked_of (checked_tells answer) ≡ answer
-checked_back Good = refl
-checked_back (Refused why) = ap Refused (refusal-back why)
-
--- a known answer of the row check tells what the call's answer tells
-pub told-by : {answer known : Checked} {verdict : Verdict} → checked_tells answer ≡ verdict → answer ≡ known → checked_tells known ≡ verdict
-told-by e k = ap checked_tells (sym k) ∙ e
-
-pub one-check_of-each-row : (counts : Counts) (takes : Takes) (rows : List ℕ) {a b : Checked}
-    → checked_tells a ≡ rows_judged counts takes rows → checked_tells b ≡ rows_judged counts takes rows → a ≡ b
-one-check_of-each-row counts takes rows = one_answer checked_tells checked_of checked_back
-
-pub one-check : (counts : Counts) (takes : Takes) (rows : List ℕ) {a b : Checked}
-    → checked_tells a ≡ check_of counts takes rows → checked_tells b ≡ check_of counts takes rows → a ≡ b
-one-check counts takes rows = one_answer checked_tells checked_of checked_back
+pub one-check : (counts : Counts) (takes : Takes) (rows : List ℕ) {a b : Result (Unit {0}) Refusal}
+    → tells a ≡ check_of counts takes rows → tells b ≡ check_of counts takes rows → a ≡ b
+one-check counts takes rows = one_told

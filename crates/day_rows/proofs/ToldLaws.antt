@@ -6,7 +6,8 @@ use Prim.Native.Nat.{ℕ}
 use lib.Dec.{eqb}
 use lib.ListN.{get_or}
 use Rattle.day_rows.specs.Refusal.{number_of, carried_by}
-use Rattle.day_rows.specs.Told.{Told, done, refused, Verdict, good, unless, and_then, Outcome, outcome}
+use Rattle.std.specs.Prelude.{Result, Ok, Err}
+use Rattle.day_rows.specs.Told.{tells, Told, done, refused, Verdict, good, unless, and_then, Outcome, outcome}
 use Rattle.day_rows.specs.declared.refusal.Refusal.{Refusal}
 use Rattle.day_rows.specs.declared.refusal.Refusal.TheVariants as case
 
@@ -60,6 +61,27 @@ pub one-outcome : {X A B : Type 0} (tells : X → Told A) (back : Told A → X) 
 one-outcome tells back inverse p q =
     let e = p ∙ sym q in
     (one_to_one tells back inverse (ap (λ o. o.answer) e), ap (λ o. o.buffers) e)
+
+-- a call's answer, read back from what it tells
+abbrev pub answer_of : {A : Type 0} → Told A → Result A Refusal
+answer_of (done value) = Ok value
+answer_of (refused number carried) = Err (refusal_of number carried)
+
+pub answer_back : {A : Type 0} (answer : Result A Refusal) → answer_of (tells answer) ≡ answer
+answer_back (Ok value) = refl
+answer_back (Err why) = ap Err (refusal-back why)
+
+-- a promise that is an equation of what the answer tells settles the answer, whatever the call
+pub one_told : {A : Type 0} {given : Told A} {a b : Result A Refusal} → tells a ≡ given → tells b ≡ given → a ≡ b
+one_told = one_answer tells answer_of answer_back
+
+-- and with the buffers at exit, both
+pub one_told-outcome : {A B : Type 0} {given : Outcome A B} {a b : Result A Refusal} {before after : B} → outcome (tells a) before ≡ given → outcome (tells b) after ≡ given → (a ≡ b) × (before ≡ after)
+one_told-outcome = one-outcome tells answer_of answer_back
+
+-- a known answer tells what the call's answer tells
+pub told-by : {A : Type 0} {answer known : Result A Refusal} {told : Told A} → tells answer ≡ told → answer ≡ known → tells known ≡ told
+told-by e k = ap tells (sym k) ∙ e
 
 -- whether a telling is done
 abbrev done? : {A : Type 0} → Told A → Bool

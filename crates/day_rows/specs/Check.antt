@@ -5,7 +5,7 @@ use Rattle.base_lists.specs.First.{first_failing}
 use Rattle.day_rows.specs.Kinds.{columns_of}
 use Rattle.day_rows.specs.Op.{signed_of, extra_of, is_op}
 use Rattle.day_rows.specs.Row.{row_of}
-use Rattle.day_rows.specs.Told.{refused, Verdict, good, refusal_tells, unless}
+use Rattle.day_rows.specs.Told.{refused, Verdict, good, unless}
 use Rattle.day_rows.specs.declared.table.Part.{Part}
 use Rattle.day_rows.specs.declared.table.Part.TheVariants as part
 use Rattle.day_rows.specs.declared.table.Name.{Name}
@@ -13,8 +13,6 @@ use Rattle.day_rows.specs.declared.table.Name.TheVariants as name
 use Rattle.day_rows.specs.declared.check.Counts.{Counts}
 use Rattle.day_rows.specs.declared.check.Takes.{Takes}
 use Rattle.day_rows.specs.declared.check.Takes.TheVariants as takes
-use Rattle.day_rows.specs.declared.check.Checked.{Checked}
-use Rattle.day_rows.specs.declared.check.Checked.TheVariants.{Good, Refused}
 
 -- which parts of the table a call takes: 'Search and plan check take kinds 1 to 6 only, the roster's
 -- assignment list 10 to 13 only'
@@ -54,11 +52,6 @@ row_keeps counts takes number =
     && column_holds counts columns.1 row.left
     && column_holds counts columns.2 row.right
     && column_holds counts columns.3 row.extra
-
--- what the row check's answer tells
-abbrev pub checked_tells : Checked → Verdict
-checked_tells Good = good
-checked_tells (Refused why) = refusal_tells why
 
 -- the rows of a list judged, 5: 'a row breaks the table; carries the first such row'
 unfoldable pub rows_judged : Counts → Takes → List ℕ → Verdict

@@ -5,4 +5,3 @@ pub mod Op
 pub mod Refusal
 pub mod Row
 pub mod Told
-pub mod steps

@@ -1,5 +1,5 @@
 -- What the answers of all calls tell in 01's terms, and what a call leaves.
-use Rattle.std.specs.Prelude.{Bool, cond, List, [], ℕ}
+use Rattle.std.specs.Prelude.{Bool, cond, List, [], ℕ, Result, Ok, Err}
 use Rattle.day_rows.specs.Refusal.{number_of, carried_by}
 use Rattle.day_rows.specs.declared.refusal.Refusal.{Refusal}
 
@@ -23,6 +23,11 @@ refuse number = refused number []
 -- what a refusal tells, whatever the call
 abbrev pub refusal_tells : {A : Type 0} → Refusal → Told A
 refusal_tells why = refused (number_of why) (carried_by why)
+
+-- what a call's answer tells: the value that it hands back, or why it refuses
+abbrev pub tells : {A : Type 0} → Result A Refusal → Told A
+tells (Ok value) = done value
+tells (Err why) = refusal_tells why
 
 -- refused with the number unless the test holds; else the rest
 abbrev pub unless : {A : Type 0} → Bool → ℕ → Told A → Told A

@@ -2,8 +2,8 @@
 ghost use Rattle.std.specs.Prelude.{◌≡◌, true};
 ghost use Rattle.day_rows.specs.Kinds.{columns_of};
 ghost use Rattle.day_rows.specs.Row.{row_of};
-ghost use Rattle.day_rows.specs.steps.Lines.{on_left, on_right, on_extra};
-ghost use Rattle.day_rows.specs.Check.{takes_part, column_holds, row_keeps, most_rows, counts_in_range, checked_tells, rows_judged, check_of};
+ghost use Rattle.day_rows.specs.Told.{tells};
+ghost use Rattle.day_rows.specs.Check.{takes_part, column_holds, row_keeps, most_rows, counts_in_range, rows_judged, check_of};
 
 use super::kind::Kind;
 use super::op::Op;
@@ -12,7 +12,7 @@ use super::row::Row;
 use super::table::{Columns, Name, Part};
 
 // A day's counts as a call is given them: any numbers.
-#[derive(Clone, Copy)]
+#[derive(Clone, Copy, PartialEq, Eq)]
 pub struct Counts {
     pub choices: usize,
     pub slots: usize,
@@ -22,18 +22,11 @@ pub struct Counts {
 
 // Which list a call takes, with its kinds: a day's given rows (all that the table has), the search's (1 to
 // 6), or the roster's (10 to 13).
-#[derive(Clone, Copy)]
+#[derive(Clone, Copy, PartialEq, Eq)]
 pub enum Takes {
     Given,
     Scheduling,
     Assignment,
-}
-
-// What the row check answers.
-#[derive(Clone, Copy)]
-pub enum Checked {
-    Good,
-    Refused(Refusal),
 }
 
 // Whether a call takes kinds of this part of the table.
@@ -41,62 +34,25 @@ fn takes_part(takes: Takes, part: Part) -> bool
     ensures { result ≡ takes_part takes part }
 {
     match takes {
-        Takes::Given => match part {
-            Part::Refused => false,
-            Part::GivenOnly => true,
-            Part::Scheduling => true,
-            Part::Assignment => true,
-        },
-        Takes::Scheduling => match part {
-            Part::Refused => false,
-            Part::GivenOnly => false,
-            Part::Scheduling => true,
-            Part::Assignment => false,
-        },
-        Takes::Assignment => match part {
-            Part::Refused => false,
-            Part::GivenOnly => false,
-            Part::Scheduling => false,
-            Part::Assignment => true,
-        },
+        Takes::Given => part != Part::Refused,
+        Takes::Scheduling => part == Part::Scheduling,
+        Takes::Assignment => part == Part::Assignment,
     }
 }
 
-// Whether a left column may hold the value: a choice, a slot or a chooser under its count. No line that a
-// call takes names anything else there.
-fn left_holds(counts: Counts, names: Name, value: u16) -> bool
-    requires { on_left names ≡ true }
+// Whether a column that names this may hold the value: a number under its count, any limit, an offset, an op;
+// 'Extra is 0 elsewhere'.
+fn column_holds(counts: Counts, names: Name, value: u16) -> bool
     ensures { result ≡ column_holds counts names value }
 {
     match names {
-        Name::Choice => (value as usize) < counts.choices,
-        Name::Slot => (value as usize) < counts.slots,
-        _ => (value as usize) < counts.choosers,
-    }
-}
-
-// Whether a right column may hold the value: a choice, a slot or a chooser under its count, or any limit.
-fn right_holds(counts: Counts, names: Name, value: u16) -> bool
-    requires { on_right names ≡ true }
-    ensures { result ≡ column_holds counts names value }
-{
-    match names {
-        Name::Choice => (value as usize) < counts.choices,
-        Name::Slot => (value as usize) < counts.slots,
-        Name::Chooser => (value as usize) < counts.choosers,
-        _ => true,
-    }
-}
-
-// Whether an extra column may hold the value: an offset, an op, or nothing.
-fn extra_holds(counts: Counts, names: Name, value: u16) -> bool
-    requires { on_extra names ≡ true }
-    ensures { result ≡ column_holds counts names value }
-{
-    match names {
-        Name::Offset => value > 0,
+        Name::None => value == Row::NO_EXTRA,
+        Name::Choice => usize::from(value) < counts.choices,
+        Name::Slot => usize::from(value) < counts.slots,
+        Name::Chooser => usize::from(value) < counts.choosers,
+        Name::Limit => true,
+        Name::Offset => 0 < value,
         Name::Op => Op::is_op(value),
-        _ => value == Row::NO_EXTRA,
     }
 }
 
@@ -105,20 +61,19 @@ fn keeps_line(counts: Counts, takes: Takes, columns: Columns, number: u64) -> bo
     requires { columns ≡ columns_of (row_of number).kind }
     ensures { result ≡ row_keeps counts takes number }
 {
-    let part = columns.0;
-    if !takes_part(takes, part) {
+    if !takes_part(takes, columns.0) {
         return false;
     }
     let left = columns.1;
-    if !left_holds(counts, left, Row::left_of(number)) {
+    if !column_holds(counts, left, Row::left_of(number)) {
         return false;
     }
     let right = columns.2;
-    if !right_holds(counts, right, Row::right_of(number)) {
+    if !column_holds(counts, right, Row::right_of(number)) {
         return false;
     }
     let extra = columns.3;
-    extra_holds(counts, extra, Row::extra_of(number))
+    column_holds(counts, extra, Row::extra_of(number))
 }
 
 // Whether a number of a pool stands for a row that keeps the table. The kinds that search and plan check take
@@ -169,17 +124,15 @@ pub fn row_keeps(counts: Counts, takes: Takes, number: u64) -> bool
 }
 
 // The first row of a list that breaks the table, whatever the counts.
-pub fn check_each_row(counts: Counts, takes: Takes, rows: &[u64]) -> Checked
-    ensures { checked_tells result ≡ rows_judged counts takes rows.now }
+pub fn check_each_row(counts: Counts, takes: Takes, rows: &[u64]) -> Result<(), Refusal>
+    ensures { tells result ≡ rows_judged counts takes rows.now }
 {
-    let mut i = 0;
-    while i < rows.len() {
+    for i in 0..rows.len() {
         if !row_keeps(counts, takes, rows[i]) {
-            return Checked::Refused(Refusal::Row(i));
+            return Err(Refusal::Row(i));
         }
-        i += 1;
     }
-    Checked::Good
+    Ok(())
 }
 
 // Whether each count is in its range: given rows are at most 128, reduced ones 1,024.
@@ -210,14 +163,14 @@ fn most_rows(takes: Takes) -> usize
 }
 
 // The row check of a call that takes nothing but rows: 1, then 2, then 5 with the first bad row.
-pub fn check_rows(counts: Counts, takes: Takes, rows: &[u64]) -> Checked
-    ensures { checked_tells result ≡ check_of counts takes rows.now }
+pub fn check_rows(counts: Counts, takes: Takes, rows: &[u64]) -> Result<(), Refusal>
+    ensures { tells result ≡ check_of counts takes rows.now }
 {
     if !counts_in_range(counts, takes) {
-        return Checked::Refused(Refusal::Count);
+        return Err(Refusal::Count);
     }
     if rows.len() != counts.rows {
-        return Checked::Refused(Refusal::Length);
+        return Err(Refusal::Length);
     }
     check_each_row(counts, takes, rows)
 }

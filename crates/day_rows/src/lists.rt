@@ -7,12 +7,10 @@ ghost use Rattle.day_rows.specs.Levels.{levels_rise, last_level};
 pub fn levels_rise(levels: &[u16]) -> bool
     ensures { result ≡ levels_rise levels.now }
 {
-    let mut i = 0;
-    while i + 1 < levels.len() {
-        if levels[i + 1] <= levels[i] {
+    for i in 1..levels.len() {
+        if levels[i] <= levels[i - 1] {
             return false;
         }
-        i += 1;
     }
     true
 }
@@ -21,37 +19,19 @@ pub fn levels_rise(levels: &[u16]) -> bool
 pub fn last_level(levels: &[u16]) -> u16
     ensures { result ≡ last_level levels.now }
 {
-    let n = levels.len();
-    if n == 0 {
-        return 0;
-    }
-    levels[n - 1]
+    levels.last().copied().unwrap_or(0)
 }
 
 // Number 4: whether every preference is at most the last level.
 pub fn preferences_keep(last: u16, preferences: &[u16]) -> bool
     ensures { result ≡ all_at_most last preferences.now }
 {
-    let mut i = 0;
-    while i < preferences.len() {
-        if last < preferences[i] {
-            return false;
-        }
-        i += 1;
-    }
-    true
+    preferences.iter().all(|preference| *preference <= last)
 }
 
 // Number 13: whether every optional byte is 0 or 1.
 pub fn flags_fit(optional: &[u8]) -> bool
     ensures { result ≡ all_at_most 1 optional.now }
 {
-    let mut i = 0;
-    while i < optional.len() {
-        if 1 < optional[i] {
-            return false;
-        }
-        i += 1;
-    }
-    true
+    optional.iter().all(|flag| *flag <= 1)
 }

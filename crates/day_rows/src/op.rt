@@ -3,7 +3,7 @@ ghost use Rattle.std.specs.Prelude.{◌≡◌};
 ghost use Rattle.day_rows.specs.Op.{is_op};
 
 // An op, as the extra column holds it: 01's signed number plus 32,768, written so that both can be read.
-#[derive(Clone, Copy)]
+#[derive(Clone, Copy, PartialEq, Eq)]
 pub struct Op(pub u16);
 
 impl Op {
@@ -19,7 +19,8 @@ impl Op {
 
     pub const LT: u16 = 32_768 - 3;
 
-    // Whether an extra column names one of the six ops.
+    // Whether an extra column names one of the six ops. An arm for each, since the check doesn't tell apart
+    // the codes of one arm.
     pub fn is_op(extra: u16) -> bool
         ensures { result ≡ is_op extra }
     {

@@ -3,7 +3,7 @@ ghost use Rattle.std.specs.Prelude.{◌≡◌};
 ghost use Rattle.day_rows.specs.Refusal.{number_of};
 
 // Why a call refuses its input. Row carries the first row that breaks the table.
-#[derive(Clone, Copy)]
+#[derive(Clone, Copy, PartialEq, Eq)]
 pub enum Refusal {
     Count,
     Length,
@@ -21,12 +21,12 @@ pub enum Refusal {
     Map,
 }
 
-impl Refusal {
-    // 01's number of a refusal.
-    pub fn number(self) -> u8
-        ensures { result ≡ number_of self }
-    {
-        match self {
+// 01's number of a refusal.
+impl From<Refusal> for u8 {
+    ghost from_gives = { λ why number. number ≡ number_of why };
+
+    fn from(why: Refusal) -> u8 {
+        match why {
             Refusal::Count => 1,
             Refusal::Length => 2,
             Refusal::Levels => 3,

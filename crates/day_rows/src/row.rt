@@ -7,7 +7,7 @@ use super::number::{Choice, Chooser, Slot};
 
 // A row by its columns. The extra column is kept 32,768 higher than 01's signed number, so that it needs no
 // sign.
-#[derive(Clone, Copy)]
+#[derive(Clone, Copy, PartialEq, Eq)]
 pub struct Row {
     pub kind: u16,
     pub left: u16,
@@ -15,14 +15,11 @@ pub struct Row {
     pub extra: u16,
 }
 
-impl Row {
-    // The extra column of a row that has none: 'Extra is 0 elsewhere'.
-    pub const NO_EXTRA: u16 = 32_768;
+// The row that a number of a pool stands for: each number is one row.
+impl From<u64> for Row {
+    ghost from_gives = { λ number row. row ≡ row_of number };
 
-    // The row that a number of a pool stands for: each number is one row.
-    pub fn of(number: u64) -> Row
-        ensures { result ≡ row_of number }
-    {
+    fn from(number: u64) -> Row {
         Row {
             kind: (number / 0x1_0000_0000_0000) as u16,
             left: (number / 0x1_0000_0000 % 0x1_0000) as u16,
@@ -30,43 +27,50 @@ impl Row {
             extra: (number % 0x1_0000) as u16,
         }
     }
+}
+
+// The row's number in a pool.
+impl From<Row> for u64 {
+    ghost from_gives = { λ row number. number ≡ row_number row };
+
+    fn from(row: Row) -> u64 {
+        (row.kind as u64) * 0x1_0000_0000_0000
+            + (row.left as u64) * 0x1_0000_0000
+            + (row.right as u64) * 0x1_0000
+            + (row.extra as u64)
+    }
+}
+
+impl Row {
+    // The extra column of a row that has none: 'Extra is 0 elsewhere'.
+    pub const NO_EXTRA: u16 = 32_768;
 
     // The kind of a number's row. Each column has its function for callers that look at one column alone.
     pub fn kind_of(number: u64) -> u16
         ensures { result ≡ (row_of number).kind }
     {
-        Row::of(number).kind
+        Row::from(number).kind
     }
 
     // The left column of a number's row.
     pub fn left_of(number: u64) -> u16
         ensures { result ≡ (row_of number).left }
     {
-        Row::of(number).left
+        Row::from(number).left
     }
 
     // The right column of a number's row.
     pub fn right_of(number: u64) -> u16
         ensures { result ≡ (row_of number).right }
     {
-        Row::of(number).right
+        Row::from(number).right
     }
 
     // The extra column of a number's row, 32,768 higher as the row keeps it.
     pub fn extra_of(number: u64) -> u16
         ensures { result ≡ (row_of number).extra }
     {
-        Row::of(number).extra
-    }
-
-    // The row's number in a pool.
-    pub fn number(self) -> u64
-        ensures { result ≡ row_number self }
-    {
-        (self.kind as u64) * 0x1_0000_0000_0000
-            + (self.left as u64) * 0x1_0000_0000
-            + (self.right as u64) * 0x1_0000
-            + (self.extra as u64)
+        Row::from(number).extra
     }
 
     // A row of kind 1 or 2: a choice and a slot.

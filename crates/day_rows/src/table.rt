@@ -3,7 +3,7 @@ ghost use Rattle.std.specs.Prelude.{◌≡◌};
 ghost use Rattle.day_rows.specs.Kinds.{columns_of};
 
 // Which lists a kind may stand in: none, a day's given rows alone, or also the search's or the roster's list.
-#[derive(Clone, Copy)]
+#[derive(Clone, Copy, PartialEq, Eq)]
 pub enum Part {
     Refused,
     GivenOnly,
@@ -12,7 +12,7 @@ pub enum Part {
 }
 
 // What a column of a row names.
-#[derive(Clone, Copy)]
+#[derive(Clone, Copy, PartialEq, Eq)]
 pub enum Name {
     None,
     Choice,
@@ -24,7 +24,7 @@ pub enum Name {
 }
 
 // A line of the table: where the kind may stand, and what left, right and extra name.
-#[derive(Clone, Copy)]
+#[derive(Clone, Copy, PartialEq, Eq)]
 pub struct Columns(pub Part, pub Name, pub Name, pub Name);
 
 // 'One table of the sixteen kinds fixes what each column may hold': the entry at a kind's code.

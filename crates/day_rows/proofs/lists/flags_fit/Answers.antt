@@ -1,26 +1,14 @@
-use mathlib.Core.Path.{sym}
-use native.Mathlib.Omega.{arith}
-use borrow.Author.Tests.{le-leb, lt-leb}
-use Rattle.base_lists.proofs.Below.{all_more, one-fails}
-use Rattle.base_lists.proofs.Through.{all_none, all_done}
+use mathlib.Core.Path.{sym, ◌∙◌}
+use lib.Dec.{leb}
+use Rattle.std.proofs.Common.{tests, rules}
+use Rattle.std.proofs.lemmas.Iterator.{YieldsList-from_slice}
+use Rattle.std.proofs.lemmas.Iterator.Search.{all_from_yields_List}
+use Rattle.base_lists.proofs.All.{all_of-list_all, all_of-below}
 use Rattle.base_lists.specs.All.{all_at_most}
-use borrow.Author.Rules.{rules}
 use Rattle.day_rows.proofs.lists.flags_fit.Goals as goal
-
-pub loop-i-init : goal.loop-i-init
-loop-i-init c =
-    (search rules, all_none _)
-
-pub returns-then-optional-i-gt1 : goal.returns-then-optional-i-gt1
-unfolding all_at_most
-returns-then-optional-i-gt1 c =
-    sym (one-fails _ _ _ c.loop-i-test.true (lt-leb _ _ c.if-optional-i-gt1.true))
-
-pub loop-i-preserved : goal.loop-i-preserved
-loop-i-preserved c =
-    (omega arith, all_more _ _ c.loop-i.invariant.1 (le-leb _ _ c.if-optional-i-gt1.false))
 
 pub returns : goal.returns
 unfolding all_at_most
 returns c =
-    all_done _ _ _ c.loop-i.invariant.0 c.loop-i-test.false c.loop-i.invariant.1
+    let all = all_from_yields_List (λ entry. leb entry 1) _ _ c.all.result c.all.ensures.ran (YieldsList-from_slice _ c.iter.ensures.rest) (λ x b q k. search (rules, tests)) in
+    all ∙ all_of-list_all _ _ ∙ sym (all_of-below _ _ 0)

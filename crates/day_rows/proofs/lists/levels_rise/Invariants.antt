@@ -1,4 +1,4 @@
--- The loop's invariant: every level before i is under the next.
+-- The loop's invariant: every level before the last one met is under the next.
 use mathlib.Core.Path.{◌≡◌}
 use mathlib.Core.Bool.{true}
 use Prim.Native.Nat.{◌+◌, ◌-◌, ◌≤◌}
@@ -9,8 +9,4 @@ use Rattle.day_rows.proofs.lists.levels_rise.Given as goal
 
 abbrev pub invariant-loop-i : goal.invariant-loop-i
 invariant-loop-i l =
-    (l.i ≤ length l.levels - 1) × (all_below l.i (λ k. ltb (get_or l.levels k 0) (get_or l.levels (k + 1) 0)) ≡ true)
-
-abbrev pub decreases-loop-i : goal.decreases-loop-i
-decreases-loop-i l =
-    length l.levels - 1 - l.i
+    (l.i - 1 ≤ length l.levels - 1) × (all_below (l.i - 1) (λ k. ltb (get_or l.levels k 0) (get_or l.levels (k + 1) 0)) ≡ true)

@@ -5,4 +5,4 @@ use Rattle.day_rows.proofs.row.Row.extra_of.Goals as goal
 
 pub returns : goal.returns
 returns c =
-    ap (λ (row : Row). row.extra) c.of.ensures
+    ap (λ (row : Row). row.extra) c.from.ensures

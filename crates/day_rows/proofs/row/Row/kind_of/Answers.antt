@@ -5,4 +5,4 @@ use Rattle.day_rows.proofs.row.Row.kind_of.Goals as goal
 
 pub returns : goal.returns
 returns c =
-    ap (λ (row : Row). row.kind) c.of.ensures
+    ap (λ (row : Row). row.kind) c.from.ensures

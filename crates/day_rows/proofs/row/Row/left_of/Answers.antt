@@ -5,4 +5,4 @@ use Rattle.day_rows.proofs.row.Row.left_of.Goals as goal
 
 pub returns : goal.returns
 returns c =
-    ap (λ (row : Row). row.left) c.of.ensures
+    ap (λ (row : Row). row.left) c.from.ensures

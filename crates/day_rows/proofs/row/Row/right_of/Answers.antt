@@ -5,4 +5,4 @@ use Rattle.day_rows.proofs.row.Row.right_of.Goals as goal
 
 pub returns : goal.returns
 returns c =
-    ap (λ (row : Row). row.right) c.of.ensures
+    ap (λ (row : Row). row.right) c.from.ensures
