@@ -6,7 +6,7 @@ use Prim.Native.Nat.{ℕ}
 use lib.Dec.{eqb}
 use lib.ListN.{get_or}
 use Rattle.day_rows.specs.Refusal.{number_of, carried_by}
-use Rattle.std.specs.Prelude.{Result, Ok, Err}
+use Rattle.std.specs.Prelude.{Result, Ok, Err, IsErrAnd}
 use Rattle.day_rows.specs.Told.{tells, Told, done, refused, Verdict, good, unless, and_then, Outcome, outcome}
 use Rattle.day_rows.specs.declared.refusal.Refusal.{Refusal}
 use Rattle.day_rows.specs.declared.refusal.Refusal.TheVariants as case
@@ -82,6 +82,11 @@ one_told-outcome = one-outcome tells answer_of answer_back
 -- a known answer tells what the call's answer tells
 pub told-by : {A : Type 0} {answer known : Result A Refusal} {told : Told A} → tells answer ≡ told → answer ≡ known → tells known ≡ told
 told-by e k = ap tells (sym k) ∙ e
+
+-- an error that a call passes on by `?` is told as it was
+pub passed_on : {A : Type 0} (answer : Result A Refusal) (why : Refusal) → IsErrAnd answer (λ given. given ≡ why) → tells answer ≡ refused (number_of why) (carried_by why)
+passed_on (Ok value) why h = absurd h
+passed_on (Err given) why h = ap (λ (why : Refusal). refused (number_of why) (carried_by why)) h
 
 -- whether a telling is done
 abbrev done? : {A : Type 0} → Told A → Bool

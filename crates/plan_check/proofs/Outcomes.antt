@@ -1,37 +1,25 @@
 -- No two outcomes fit what this crate's public functions promise (those of `sentences` and `plan`:
 -- `RowOutcomes`), and where check_plan answers, is_feasible gives the same answer.
-use mathlib.Core.Path.{◌≡◌, refl, ◌∙◌, ap}
-use mathlib.Core.Bool.{Bool, true, false}
+use mathlib.Core.Path.{◌≡◌, ◌∙◌}
+use mathlib.Core.Bool.{Bool}
 use mathlib.Core.List.{List}
 use Prim.Native.Nat.{ℕ}
 use Rattle.base_lists.specs.All.{all_of}
 use Rattle.base_lists.proofs.Outcome.{no_two}
-use Rattle.day_rows.specs.Told.{Told, done, refused}
-use Rattle.day_rows.proofs.ToldLaws.{refusal_of, refusal-back, one_answer, then_done, done-is}
+use Rattle.day_rows.specs.Told.{done, tells}
+use Rattle.day_rows.proofs.ToldLaws.{one_told, then_done, done-is}
+use Rattle.std.specs.Prelude.{Result}
+use Rattle.day_rows.specs.declared.refusal.Refusal.{Refusal}
 use Rattle.plan_check.specs.Day.{Day}
 use Rattle.plan_check.specs.Feasible.{feasible, is_feasible}
 use Rattle.plan_check.specs.steps.Kept.{keeps_every}
-use Rattle.plan_check.specs.Check.{cell_fits, plan_judged, plan_checked_tells, plan_check_of}
-use Rattle.plan_check.specs.declared.plan_check.PlanChecked.{PlanChecked}
-use Rattle.plan_check.specs.declared.plan_check.PlanChecked.TheVariants.{Feasible, Infeasible, Refused}
+use Rattle.plan_check.specs.Check.{cell_fits, plan_judged, plan_check_of}
 use Rattle.plan_check.proofs.CheckLaws.{worker-judged}
-
--- the plan check's answer, read back from what it tells
-abbrev pub plan_checked_of : Told Bool → PlanChecked
-plan_checked_of (done true) = Feasible
-plan_checked_of (done false) = Infeasible
-plan_checked_of (refused number carried) = Refused (refusal_of number carried)
-
--- each answer can be read back
-pub plan_checked_back : (answer : PlanChecked) → plan_checked_of (plan_checked_tells answer) ≡ answer
-plan_checked_back Feasible = refl
-plan_checked_back Infeasible = refl
-plan_checked_back (Refused why) = ap Refused (refusal-back why)
 
 module _ (day : Day) (plan : List ℕ) where
   -- no two outcomes fit what check_plan promises
-  pub check-settled : {a b : PlanChecked} → plan_checked_tells a ≡ plan_check_of day plan → plan_checked_tells b ≡ plan_check_of day plan → a ≡ b
-  check-settled = one_answer plan_checked_tells plan_checked_of plan_checked_back
+  pub check-settled : {a b : Result Bool Refusal} → tells a ≡ plan_check_of day plan → tells b ≡ plan_check_of day plan → a ≡ b
+  check-settled = one_told
 
   -- no two outcomes fit what is_feasible promises
   pub worker-settled : {a b : Bool} → a ≡ is_feasible day plan → b ≡ is_feasible day plan → a ≡ b

@@ -1,13 +1,11 @@
 -- The plan check as a call: its refusals, lowest number first, and its answer.
-use Rattle.std.specs.Prelude.{Bool, true, false, ◌&&◌, ◌||◌, List, ℕ, eqb, ltb, length}
+use Rattle.std.specs.Prelude.{Bool, ◌&&◌, ◌||◌, List, ℕ, eqb, ltb, length}
 use Rattle.base_lists.specs.All.{all_of, all_at_most}
 use Rattle.day_rows.specs.Check.{counts_in_range, rows_judged}
 use Rattle.day_rows.specs.declared.check.Takes.TheVariants.{Scheduling}
-use Rattle.day_rows.specs.Told.{Told, done, Verdict, good, refusal_tells, unless, and_then}
+use Rattle.day_rows.specs.Told.{Told, done, Verdict, good, unless, and_then}
 use Rattle.plan_check.specs.Day.{Day}
 use Rattle.plan_check.specs.Feasible.{lengths_fit, feasible}
-use Rattle.plan_check.specs.declared.plan_check.PlanChecked.{PlanChecked}
-use Rattle.plan_check.specs.declared.plan_check.PlanChecked.TheVariants.{Feasible, Infeasible, Refused}
 
 -- 9: 'a plan cell is neither < S nor 255'
 unfoldable pub cell_fits : ℕ → ℕ → Bool
@@ -32,12 +30,6 @@ before_cells day plan =
 -- the plan check's refusals, lowest number first: 1, 2, 5, 9, 13
 unfoldable pub plan_judged : Day → List ℕ → Verdict
 plan_judged day plan = and_then (before_cells day plan) (cells_judged day.counts.slots day.optional plan)
-
--- what the plan check's answer tells: whether the plan is feasible, or 01's number
-abbrev pub plan_checked_tells : PlanChecked → Told Bool
-plan_checked_tells Feasible = done true
-plan_checked_tells Infeasible = done false
-plan_checked_tells (Refused why) = refusal_tells why
 
 -- the plan check as a call: its refusals, and else whether the plan is feasible
 unfoldable pub plan_check_of : Day → List ℕ → Told Bool

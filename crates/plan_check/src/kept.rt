@@ -6,26 +6,21 @@ ghost use Rattle.plan_check.specs.steps.Sizing.{Counted};
 use super::feasible::add_at;
 use super::plan::OMITTED;
 use super::rows::keeps_rows;
-use base_pools::wide;
-use base_pools::zeros::sums;
 
 // The pass over the plan that counts each slot's choices, up to a cell that is neither a slot nor 255.
 fn count_sizes(plan: &[u8], sizes: &mut [u32; 24]) -> bool
     requires { (length plan.now ≤ 64) × (sizes.old ≡ replicate 24 0) }
     ensures { Counted plan.now result sizes.new }
 {
-    let mut choice = 0;
-    while choice < plan.len() {
-        let slot = wide(plan[choice]);
+    for place in plan {
+        let slot = usize::from(*place);
         if 24 <= slot {
-            if plan[choice] != OMITTED {
+            if *place != OMITTED {
                 return false;
             }
-            choice += 1;
             continue;
         }
         add_at(sizes, slot, 1);
-        choice += 1;
     }
     true
 }
@@ -37,7 +32,7 @@ pub fn keeps_every_row(plan: &[u8], rows: &[u64]) -> bool
     if 64 < plan.len() {
         return false;
     }
-    let mut sizes = sums();
+    let mut sizes = [0u32; 24];
     if !count_sizes(plan, &mut sizes) {
         return false;
     }

@@ -2,6 +2,7 @@
 // slot's sums and every row.
 #![tactic(auto)]
 
+pub mod day;
 pub mod feasible;
 pub mod kept;
 pub mod plan;

@@ -14,11 +14,7 @@ fn size_of(sizes: &[u32; 24], slot: u16) -> u32
     requires { length sizes.now ≡ 24 }
     ensures { result ≡ get_or sizes.now slot 0 }
 {
-    let at = slot as usize;
-    if 24 <= at {
-        return 0;
-    }
-    sizes[at]
+    sizes.get(usize::from(slot)).copied().unwrap_or(0)
 }
 
 // Whether the plan keeps the row that a number stands for; the sizes are the plan's.
@@ -59,9 +55,7 @@ pub(crate) fn keeps_rows(rows: &[u64], plan: &[u8], sizes: &[u32; 24]) -> bool
     requires { Sizes plan.now sizes.now }
     ensures { result ≡ keeps_rows plan.now rows.now }
 {
-    let mut left = rows.len();
-    while 0 < left {
-        left -= 1;
+    for left in (0..rows.len()).rev() {
         if !keeps_row(rows[left], plan, sizes) {
             return false;
         }

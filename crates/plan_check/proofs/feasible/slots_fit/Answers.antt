@@ -1,6 +1,4 @@
 use mathlib.Core.Path.{◌≡◌, refl, sym}
-use mathlib.Core.Bool.{true, false}
-use Prim.Native.Nat.{◌-◌}
 use native.Mathlib.Omega.{arith}
 use Rattle.base_lists.specs.Below.{all_below}
 use Rattle.plan_check.proofs.SumLaws.{slots-over, slots-under, slots-more}
@@ -12,17 +10,17 @@ unfolding all_below
 loop-slot-init c =
     (search rules, refl)
 
-pub returns-then-choosers-wide_sum : goal.returns-then-choosers-wide_sum
-returns-then-choosers-wide_sum c =
-    slots-over _ _ _ _ _ c.loop-slot-test.true c.wide_sum.ensures c.if-choosers-wide_sum.true
+pub returns-then-choosers-slot_min : goal.returns-then-choosers-slot_min
+returns-then-choosers-slot_min c =
+    slots-over _ _ _ _ _ c.loop-slot-test.true refl c.if-choosers-slot_min.true
 
-pub returns-then-wide_sum-choosers : goal.returns-then-wide_sum-choosers
-returns-then-wide_sum-choosers c =
-    slots-under _ _ _ _ _ c.loop-slot-test.true c.wide_sum.ensures c.if-choosers-wide_sum.false c.wide_sum-in-loop-slot.ensures c.if-wide_sum-choosers.true
+pub returns-then-slot_max-slot : goal.returns-then-slot_max-slot
+returns-then-slot_max-slot c =
+    slots-under _ _ _ _ _ c.loop-slot-test.true refl c.if-choosers-slot_min.false refl c.if-slot_max-slot.true
 
 pub loop-slot-preserved : goal.loop-slot-preserved
 loop-slot-preserved c =
-    (search rules, slots-more _ _ _ _ c.loop-slot.invariant.1 c.wide_sum.ensures c.if-choosers-wide_sum.false c.wide_sum-in-loop-slot.ensures c.if-wide_sum-choosers.false)
+    (search rules, slots-more _ _ _ _ c.loop-slot.invariant.1 refl c.if-choosers-slot_min.false refl c.if-slot_max-slot.false)
 
 pub returns : goal.returns
 returns c =

@@ -11,10 +11,10 @@ pub returns-then-not-lengths_fit : goal.returns-then-not-lengths_fit
 returns-then-not-lengths_fit c =
     before-length _ _ (sym c.counts_in_range.ensures ∙ c.if-not-counts_in_range.false) (sym c.lengths_fit.ensures ∙ c.if-not-lengths_fit.true)
 
-pub returns-then-rows-counts : goal.returns-then-rows-counts
-returns-then-rows-counts c =
-    before-rows-length _ _ (sym c.counts_in_range.ensures ∙ c.if-not-counts_in_range.false) (sym c.lengths_fit.ensures ∙ c.if-not-lengths_fit.false) c.if-rows-counts.true
+pub returns-then-day : goal.returns-then-day
+returns-then-day c =
+    before-rows-length _ _ (sym c.counts_in_range.ensures ∙ c.if-not-counts_in_range.false) (sym c.lengths_fit.ensures ∙ c.if-not-lengths_fit.false) c.if-day.true
 
 pub returns : goal.returns
 returns c =
-    c.check_each_row.ensures ∙ before-rows _ _ (sym c.counts_in_range.ensures ∙ c.if-not-counts_in_range.false) (sym c.lengths_fit.ensures ∙ c.if-not-lengths_fit.false) c.if-rows-counts.false
+    c.check_each_row.ensures ∙ before-rows _ _ (sym c.counts_in_range.ensures ∙ c.if-not-counts_in_range.false) (sym c.lengths_fit.ensures ∙ c.if-not-lengths_fit.false) c.if-day.false

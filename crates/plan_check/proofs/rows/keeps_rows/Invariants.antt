@@ -6,6 +6,3 @@ use Rattle.plan_check.proofs.rows.keeps_rows.Given as goal
 
 abbrev pub invariant-loop-left : goal.invariant-loop-left
 invariant-loop-left l = (l.left ≤ length l.rows) × RowsLeft l.plan l.rows l.left
-
-abbrev pub decreases-loop-left : goal.decreases-loop-left
-decreases-loop-left l = l.left
