@@ -63,14 +63,6 @@ module _ (p : ℕ → Bool) where
   pub next_here : (from bound slot : ℕ) → from ≤ slot → slot < bound → keep_below slot p ≡ keep_below from p → p slot ≡ true → Next p from bound slot
   next_here from bound slot a l e t = record { after = a; within = omega arith; between = e; passes = λ h. t }
 
-  pub next-none : (from bound slot : ℕ) → from ≤ slot → slot ≤ bound → bound ≤ slot → keep_below slot p ≡ keep_below from p → Next p from bound bound
-  next-none from bound slot a b c e =
-      let z : slot ≡ bound = omega arith in
-      record { after = omega arith; within = omega arith; between = rw z at e; passes = λ h. absurd_lt h }
-    where
-      absurd_lt : bound < bound → p bound ≡ true
-      absurd_lt h = absurd (omega arith)
-
   -- from slot 0 on there is no critical slot
   pub none_critical : (bound first : ℕ) → Next p 0 bound first → bound ≤ first → keep_below bound p ≡ []
   unfolding keep_below

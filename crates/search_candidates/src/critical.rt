@@ -10,12 +10,10 @@ use super::loads::{load, together};
 pub(crate) fn some_short(slots: usize, choosers: usize, slot_max: &[u32], remaining: u32) -> bool
     ensures { result ≡ some_short slots choosers (maximums_of slot_max.now) remaining }
 {
-    let mut slot = 0;
-    while slot < slots {
+    for slot in 0..slots {
         if together(load(slot_max, slot), remaining) < choosers {
             return true;
         }
-        slot += 1;
     }
     false
 }
@@ -32,12 +30,10 @@ pub(crate) fn next_critical(
     requires { from ≤ slots }
     ensures { Next (is_critical choosers slot_max.now rest) from slots result }
 {
-    let mut slot = from;
-    while slot < slots {
+    for slot in from..slots {
         if together(load(slot_max, slot), rest) < choosers {
             return slot;
         }
-        slot += 1;
     }
     slots
 }

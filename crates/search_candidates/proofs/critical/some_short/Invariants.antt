@@ -1,10 +1,6 @@
 -- The loop's invariant: no slot looked at is short.
-use Prim.Native.Nat.{◌≤◌, ◌-◌}
 use Rattle.search_candidates.proofs.TestLaws.{Reached}
 use Rattle.search_candidates.proofs.critical.some_short.Given as goal
 
 abbrev pub invariant-loop-slot : goal.invariant-loop-slot
-invariant-loop-slot l = (l.slot ≤ l.slots) × Reached l.choosers l.slot_max l.remaining l.slot
-
-abbrev pub decreases-loop-slot : goal.decreases-loop-slot
-decreases-loop-slot l = l.slots - l.slot
+invariant-loop-slot l = Reached l.choosers l.slot_max l.remaining l.slot
