@@ -37,9 +37,6 @@ module _ (decisions : List ℕ) where
   undecided-out choice undecided decision e d t =
       e ∙ sym (set_skip choice (λ c. eqb (decision_of decisions c) 254) (ne_eqb (decision_of decisions choice) 254 (λ k. t (d ∙ k))))
 
-  pub undecided-done : (choices choice undecided : ℕ) → choice ≤ choices → choices ≤ choice → undecided ≡ undecided_of choice decisions → undecided ≡ undecided_of choices decisions
-  undecided-done choices choice undecided a b e = let z : choice ≡ choices = omega arith in rw z at e
-
 -- ---- the choices in each slot
 
 -- one entry of a list made by place is another
@@ -93,9 +90,6 @@ module _ (decisions : List ℕ) where
       where
         apart : (j : ℕ) → j < n → j ≡ slot → ⊥
         apart j m z = omega arith
-
-  pub held-done : (n choices choice : ℕ) (held : List ℕ) → choice ≤ choices → choices ≤ choice → held ≡ held_by choice n decisions → held ≡ held_by choices n decisions
-  held-done n choices choice held a b e = let z : choice ≡ choices = omega arith in rw z at e
 
   -- the choices in each of the day's slots
   pub held-part : (choices slots n : ℕ) (held : List ℕ) → slots ≤ n → held ≡ held_by choices n decisions → take slots held ≡ held_by choices slots decisions

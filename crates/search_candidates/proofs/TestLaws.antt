@@ -1,44 +1,21 @@
--- The tests by maximums, a law for each way through their loops.
+-- The tests by maximums, a law for each way through their loop.
 use mathlib.Core.Path.{◌≡◌, refl, sym, ◌∙◌, ap}
 use mathlib.Core.Bool.{Bool, true, false, not, cond}
 use mathlib.Core.List.{List, [], ◌∷◌, ◌++◌, append_assoc, append-nil}
 use Prim.Native.Nat.{ℕ, zero, suc, ◌+◌, ◌-◌, ◌≤◌, ◌<◌}
 use native.Mathlib.Nat.{add-zero, add-suc}
 use native.Mathlib.Omega.{arith}
-use borrow.Author.Tests.{lt-ltb, le-ltb, le-leb, lt-leb}
-use lib.Dec.{leb}
-use lib.ListN.{get_or}
-use Rattle.base_lists.specs.Below.{all_below}
+use borrow.Author.Tests.{lt-ltb, le-ltb, le-leb, lt-leb, ltb-true, ltb-false}
+use lib.Dec.{leb, ltb}
+use lib.ListN.{length, get_or}
+use Rattle.base_lists.specs.Below.{all_below, count_below}
 use Rattle.base_lists.specs.Group.{keep_below}
-use Rattle.base_lists.proofs.Below.{all_more, one-fails}
-use Rattle.base_lists.proofs.Through.{all_none, all_done}
-use Rattle.base_lists.proofs.Group.{keep_in, keep_out}
+use Rattle.base_lists.proofs.Below.{one-fails, each_all}
+use Rattle.base_lists.proofs.CountBelow.{count_misses}
+use Rattle.base_lists.proofs.Group.{keep_in, keep_out, length-keep}
 use Rattle.search_candidates.specs.Loads.{Loads, max_of}
 use Rattle.search_candidates.specs.Tests.{some_short, critical_slots}
 use Rattle.search_candidates.specs.steps.Maximums.{maximums_of, is_critical, Next}
-
--- ---- no slot is short so far
-
-module _ (choosers : ℕ) (slot_max : List ℕ) (remaining : ℕ) where
-  unfoldable pub Reached : ℕ → Type 0
-  Reached slot = all_below slot (λ k. leb choosers (max_of (maximums_of slot_max) k + remaining)) ≡ true
-
-  pub reached-start : Reached 0
-  unfolding Reached
-  reached-start = all_none _
-
-  pub reached-on : (slot own sum : ℕ) → Reached slot → own ≡ get_or slot_max slot 0 → sum ≡ own + remaining → choosers ≤ sum → Reached (slot + 1)
-  unfolding Reached max_of
-  reached-on slot own sum r d e h = all_more (λ k. leb choosers (get_or slot_max k 0 + remaining)) slot r (le-leb choosers (get_or slot_max slot 0 + remaining) (omega arith))
-
-  pub short-here : (slots slot own sum : ℕ) → slot < slots → own ≡ get_or slot_max slot 0 → sum ≡ own + remaining → sum < choosers → true ≡ some_short slots choosers (maximums_of slot_max) remaining
-  unfolding some_short max_of
-  short-here slots slot own sum l d e h =
-      sym (ap not (one-fails slots (λ k. leb choosers (get_or slot_max k 0 + remaining)) slot l (lt-leb choosers (get_or slot_max slot 0 + remaining) (omega arith))))
-
-  pub none-short : (slots slot : ℕ) → slot ≤ slots → slots ≤ slot → Reached slot → false ≡ some_short slots choosers (maximums_of slot_max) remaining
-  unfolding Reached some_short
-  none-short slots slot a b r = ap not (all_done (λ k. leb choosers (max_of (maximums_of slot_max) k + remaining)) slots slot a b r)
 
 -- ---- the next slot that is critical
 
@@ -62,14 +39,6 @@ module _ (p : ℕ → Bool) where
 
   pub next_here : (from bound slot : ℕ) → from ≤ slot → slot < bound → keep_below slot p ≡ keep_below from p → p slot ≡ true → Next p from bound slot
   next_here from bound slot a l e t = record { after = a; within = omega arith; between = e; passes = λ h. t }
-
-  pub next-none : (from bound slot : ℕ) → from ≤ slot → slot ≤ bound → bound ≤ slot → keep_below slot p ≡ keep_below from p → Next p from bound bound
-  next-none from bound slot a b c e =
-      let z : slot ≡ bound = omega arith in
-      record { after = omega arith; within = omega arith; between = rw z at e; passes = λ h. absurd_lt h }
-    where
-      absurd_lt : bound < bound → p bound ≡ true
-      absurd_lt h = absurd (omega arith)
 
   -- from slot 0 on there is no critical slot
   pub none_critical : (bound first : ℕ) → Next p 0 bound first → bound ≤ first → keep_below bound p ≡ []
@@ -104,3 +73,35 @@ module _ (p : ℕ → Bool) where
       let z : second + 1 + (bound - (second + 1)) ≡ bound = omega arith in
       let e : keep_below (second + 1) p ≡ first ∷ second ∷ [] = keep_in second p (m.passes k) ∙ ap (λ l. l ++ (second ∷ [])) (m.between ∙ first-kept bound first n h) in
       (r.0, (rw z at r.1) ∙ ap (λ l. l ++ r.0) e)
+
+-- ---- a slot that is short is one that is critical with this choice's max in what remains
+
+module _ (choosers : ℕ) (slot_max : List ℕ) (remaining : ℕ) where
+  is_enough : (slot : ℕ) → is_critical choosers slot_max remaining slot ≡ false → leb choosers (max_of (maximums_of slot_max) slot + remaining) ≡ true
+  unfolding is_critical max_of
+  is_enough slot t = le-leb choosers (get_or slot_max slot 0 + remaining) (ltb-false (get_or slot_max slot 0 + remaining) choosers t)
+
+  too_little : (slot : ℕ) → is_critical choosers slot_max remaining slot ≡ true → leb choosers (max_of (maximums_of slot_max) slot + remaining) ≡ false
+  unfolding is_critical max_of
+  too_little slot t = lt-leb choosers (get_or slot_max slot 0 + remaining) (ltb-true (get_or slot_max slot 0 + remaining) choosers t)
+
+  module _ (slots first : ℕ) (n : Next (is_critical choosers slot_max remaining) 0 slots first) where
+    each_enough : slots ≤ first → (k : ℕ) → k < slots → leb choosers (max_of (maximums_of slot_max) k + remaining) ≡ true
+    each_enough h k l = by (is_critical choosers slot_max remaining k) refl
+      where
+        none : count_below slots (is_critical choosers slot_max remaining) ≡ 0
+        none = sym (length-keep slots (is_critical choosers slot_max remaining)) ∙ ap length (none_critical (is_critical choosers slot_max remaining) slots first n h)
+
+        by : (b : Bool) → is_critical choosers slot_max remaining k ≡ b → leb choosers (max_of (maximums_of slot_max) k + remaining) ≡ true
+        by true t = absurd (omega (arith, none, count_misses slots (is_critical choosers slot_max remaining) k l t))
+        by false t = is_enough k t
+
+    pub short_is : ltb first slots ≡ some_short slots choosers (maximums_of slot_max) remaining
+    unfolding some_short
+    short_is = by (ltb first slots) refl
+      where
+        by : (b : Bool) → ltb first slots ≡ b → b ≡ not (all_below slots (λ k. leb choosers (max_of (maximums_of slot_max) k + remaining)))
+        by true t =
+            let h = ltb-true first slots t in
+            sym (ap not (one-fails slots (λ k. leb choosers (max_of (maximums_of slot_max) k + remaining)) first h (too_little first (n.passes h))))
+        by false t = sym (ap not (each_all slots (λ k. leb choosers (max_of (maximums_of slot_max) k + remaining)) (each_enough (ltb-false first slots t))))

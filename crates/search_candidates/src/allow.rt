@@ -37,16 +37,14 @@ fn each_allows(
     ensures { result ≡ each_allows rows.now numbers.now
         decisions.now (λ slot. get_or sizes.now slot 0) choice place }
 {
-    let mut i = 0;
-    while i < numbers.len() {
-        let at = numbers[i] as usize;
+    for number in numbers {
+        let at = *number as usize;
         if rows.len() <= at {
             return false;
         }
         if !row_allows(rows[at], decisions, sizes, choice, place) {
             return false;
         }
-        i += 1;
     }
     true
 }

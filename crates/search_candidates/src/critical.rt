@@ -5,23 +5,8 @@ ghost use Rattle.search_candidates.specs.steps.Maximums.{maximums_of, is_critica
 
 use super::loads::{load, together};
 
-// Whether a slot is short of maximums: 'no candidate if for some slot slot max + remaining max (this choice
-// included) < H'.
-pub(crate) fn some_short(slots: usize, choosers: usize, slot_max: &[u32], remaining: u32) -> bool
-    ensures { result ≡ some_short slots choosers (maximums_of slot_max.now) remaining }
-{
-    let mut slot = 0;
-    while slot < slots {
-        if together(load(slot_max, slot), remaining) < choosers {
-            return true;
-        }
-        slot += 1;
-    }
-    false
-}
-
 // The first critical slot from a slot on, or the number of slots where none is: 'slots with slot max +
-// remaining max - this max < H are critical'.
+// remaining max - this max < H are critical'; `rest` is what remains of max without this choice's.
 pub(crate) fn next_critical(
     slots: usize,
     choosers: usize,
@@ -32,12 +17,18 @@ pub(crate) fn next_critical(
     requires { from ≤ slots }
     ensures { Next (is_critical choosers slot_max.now rest) from slots result }
 {
-    let mut slot = from;
-    while slot < slots {
+    for slot in from..slots {
         if together(load(slot_max, slot), rest) < choosers {
             return slot;
         }
-        slot += 1;
     }
     slots
+}
+
+// Whether a slot is short of maximums: 'no candidate if for some slot slot max + remaining max (this choice
+// included) < H'. It is the test of a critical slot, with this choice's max in what remains.
+pub(crate) fn some_short(slots: usize, choosers: usize, slot_max: &[u32], remaining: u32) -> bool
+    ensures { result ≡ some_short slots choosers (maximums_of slot_max.now) remaining }
+{
+    next_critical(slots, choosers, slot_max, remaining, 0) < slots
 }

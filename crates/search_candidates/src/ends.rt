@@ -5,7 +5,6 @@ ghost use Rattle.plan_check.specs.Rows.{slots_differ, offset_kept};
 ghost use Rattle.search_candidates.specs.Allow.{ends_keep, pair_allows};
 
 use super::decision::{UNDECIDED, decision_of};
-use base_pools::number::wide_word;
 use day_rows::kind::Kind;
 use day_rows::row::Row;
 use plan_check::plan::OMITTED;
@@ -49,7 +48,7 @@ fn ends_keep(number: u64, left: u8, right: u8) -> bool
 pub(crate) fn pair_allows(decisions: &[u8], choice: usize, place: u8, number: u64) -> bool
     ensures { result ≡ pair_allows decisions.now choice place (row_of number) }
 {
-    let left = wide_word(Row::left_of(number));
+    let left = usize::from(Row::left_of(number));
     if left != choice {
         let other = decision_of(decisions, left);
         if other == UNDECIDED {
@@ -57,7 +56,7 @@ pub(crate) fn pair_allows(decisions: &[u8], choice: usize, place: u8, number: u6
         }
         return ends_keep(number, other, place);
     }
-    let other = decision_of(decisions, wide_word(Row::right_of(number)));
+    let other = decision_of(decisions, usize::from(Row::right_of(number)));
     if other == UNDECIDED {
         return true;
     }

@@ -4,21 +4,11 @@ ghost use Rattle.day_rows.specs.Row.{row_of};
 ghost use Rattle.plan_check.specs.Rows.{op_holds};
 ghost use Rattle.search_candidates.specs.Allow.{room_for, room_allows, limit_holds, limits_hold};
 
+use super::loads::load;
 use day_rows::kind::Kind;
 use day_rows::op::Op;
 use day_rows::row::Row;
 use plan_check::sentences::op_holds;
-
-// How many of the decided choices stand in a slot; none past the end.
-fn size_of(sizes: &[u32], slot: u16) -> u32
-    ensures { result ≡ get_or sizes.now slot 0 }
-{
-    let at = slot as usize;
-    if sizes.len() <= at {
-        return 0;
-    }
-    sizes[at]
-}
 
 // Whether a limit has room for one more: 'ops Eq, Leq, Lt only, as count + 1 <= limit (Lt: limit - 1)'. Lt
 // needs one more, which is added at 64 bits.
@@ -43,7 +33,7 @@ pub(crate) fn room_allows(sizes: &[u32], place: u8, number: u64) -> bool
     }
     room_for(
         Row::extra_of(number),
-        size_of(sizes, slot),
+        load(sizes, slot as usize),
         Row::right_of(number),
     )
 }
@@ -67,7 +57,7 @@ fn limit_holds(sizes: &[u32], place: u8, number: u64) -> bool
         return true;
     }
     let slot = Row::left_of(number);
-    let count = size_of(sizes, slot);
+    let count = load(sizes, slot as usize);
     if place as u16 == slot {
         return holds_with_one_more(Row::extra_of(number), count, Row::right_of(number));
     }
@@ -78,12 +68,10 @@ fn limit_holds(sizes: &[u32], place: u8, number: u64) -> bool
 pub(crate) fn limits_hold(rows: &[u64], sizes: &[u32], place: u8) -> bool
     ensures { result ≡ limits_hold rows.now (λ slot. get_or sizes.now slot 0) place }
 {
-    let mut i = 0;
-    while i < rows.len() {
-        if !limit_holds(sizes, place, rows[i]) {
+    for number in rows {
+        if !limit_holds(sizes, place, *number) {
             return false;
         }
-        i += 1;
     }
     true
 }

@@ -1,7 +1,7 @@
-// What a slot has of min or max.
+// What a slot has of min or max, and how many choices.
 ghost use Rattle.std.specs.Prelude.{◌≡◌, ◌+◌, get_or};
 
-// A slot's sum of min or max, 0 past the list.
+// A slot's sum of min or max, or its count of the decided choices; 0 past the list.
 pub(crate) fn load(loads: &[u32], slot: usize) -> u32
     ensures { result ≡ get_or loads.now slot 0 }
 {

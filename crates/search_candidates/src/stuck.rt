@@ -5,7 +5,6 @@ ghost use Rattle.search_candidates.specs.Tests.{held_by, undecided_of, sets_stuc
 use super::decision::{UNDECIDED, decision_of};
 use base_choice_sets::reach::some_stuck;
 use base_choice_sets::set::with;
-use base_pools::wide;
 
 // The undecided choices as a set.
 fn undecided_of(decisions: &[u8], choices: usize) -> u64
@@ -13,14 +12,11 @@ fn undecided_of(decisions: &[u8], choices: usize) -> u64
     ensures { result ≡ undecided_of choices decisions.now }
 {
     let mut undecided = 0;
-    let mut choice = 0;
-    while choice < choices {
+    for choice in 0..choices {
         if decision_of(decisions, choice) != UNDECIDED {
-            choice += 1;
             continue;
         }
         undecided = with(undecided, choice);
-        choice += 1;
     }
     undecided
 }
@@ -31,15 +27,12 @@ fn held_by(decisions: &[u8], choices: usize) -> [u64; 24]
     ensures { result ≡ held_by choices 24 decisions.now }
 {
     let mut held = [0u64; 24];
-    let mut choice = 0;
-    while choice < choices {
-        let slot = wide(decision_of(decisions, choice));
+    for choice in 0..choices {
+        let slot = usize::from(decision_of(decisions, choice));
         if 24 <= slot {
-            choice += 1;
             continue;
         }
         held[slot] = with(held[slot], choice);
-        choice += 1;
     }
     held
 }
@@ -49,7 +42,7 @@ pub(crate) fn sets_stuck(choices: usize, slots: usize, decisions: &[u8], sets: &
     requires { (choices ≤ 64) × (slots ≤ 24) }
     ensures { result ≡ sets_stuck choices slots decisions.now sets.now }
 {
-    if sets.len() == 0 {
+    if sets.is_empty() {
         return false;
     }
     let held = held_by(decisions, choices);

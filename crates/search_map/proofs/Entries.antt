@@ -6,8 +6,8 @@ use Prim.Native.Nat.{ℕ, ◌+◌, ◌≤◌, ◌<◌}
 use native.Mathlib.Nat.{add-zero}
 use native.Mathlib.Numerals.{add-one}
 use native.Mathlib.Omega.{arith}
-use borrow.Author.Tests.{le-leb, lt-leb, eq-eqb, ne_eqb}
-use lib.Dec.{eqb, leb}
+use borrow.Author.Tests.{eq-eqb, ne_eqb}
+use lib.Dec.{eqb}
 use lib.ListN.{length, get_or, length-append}
 use lib.Seq.{sets, length-sets}
 use Rattle.base_lists.specs.Group.{keep_below}
@@ -19,29 +19,6 @@ use Rattle.search_map.specs.Map.{names_left, names_right, has_left, has_right, c
 use Rattle.search_map.specs.steps.Filling.{Wrote, row_if}
 
 -- ---- the test of a row
-
--- a range of kinds
-below-range : (low high kind : ℕ) → kind < low → false ≡ (leb low kind && leb kind high)
-below-range low high kind h = rw (lt-leb low kind h)
-
-from-range : (low high kind : ℕ) → low ≤ kind → leb kind high ≡ (leb low kind && leb kind high)
-from-range low high kind h = rw (le-leb low kind h)
-
-pub left_below : (kind : ℕ) → kind < 1 → false ≡ names_left kind
-unfolding names_left
-left_below kind h = below-range 1 5 kind h
-
-pub left-from : (kind : ℕ) → 1 ≤ kind → leb kind 5 ≡ names_left kind
-unfolding names_left
-left-from kind h = from-range 1 5 kind h
-
-pub right-below : (kind : ℕ) → kind < 3 → false ≡ names_right kind
-unfolding names_right
-right-below kind h = below-range 3 5 kind h
-
-pub right-from : (kind : ℕ) → 3 ≤ kind → leb kind 5 ≡ names_right kind
-unfolding names_right
-right-from kind h = from-range 3 5 kind h
 
 -- a column that the kind has, or not; kind and column are read by functions
 no_column : (names : ℕ → Bool) (rest : Bool) {kind read : ℕ} {b : Bool} → read ≡ kind → b ≡ names read → b ≡ false → false ≡ (names kind && rest)

@@ -110,9 +110,6 @@ module _ (rows starts₀ lengths₀ numbers₀ : List ℕ) where
             numbers_are = next-numbers;
           }
 
-    pub entered_done : (choices : ℕ) → choice ≤ choices → choices ≤ choice → Entered choices rows (map_of starts₀ lengths₀ numbers₀) at (map_of starts lengths numbers)
-    entered_done choices a b = let e : choices ≡ choice = omega arith in rw e s
-
 -- ---- the pools cleared, and filled
 
 module _ (rows : List ℕ) (choices : ℕ) where

@@ -7,24 +7,15 @@ use Prim.Native.Nat.{ℕ, ◌+◌, ◌-◌, ◌≤◌, ◌<◌}
 use native.Mathlib.Omega.{arith}
 use borrow.Author.Tests.{lt-ltb, le-ltb, eq-eqb, ne_eqb}
 use lib.Dec.{eqb, ltb, leb}
-use lib.ListN.{length, get_or, take, drop, length-drop, drop_of_length-le, get_or-eq_default}
+use lib.ListN.{length, get_or, take, drop, length-drop, drop_of_length-le}
 use lib.Seq.{take_all}
 use Rattle.base_lists.specs.Below.{all_below}
 use Rattle.base_lists.specs.Pool.{window}
-use Rattle.base_lists.proofs.Lists.{get_d_any}
-use Rattle.base_lists.proofs.Below.{all_more, one-fails}
-use Rattle.base_lists.proofs.Through.{all_none, all_done, all_ext}
+use Rattle.base_lists.proofs.Below.{one-fails}
+use Rattle.base_lists.proofs.Through.{all_done, all_ext}
 use Rattle.search_map.specs.Map.{map_of, no_entry, start_of, length_of, has_entry, looked_up, entry_fits, is_whole, map_keeps}
 use Rattle.search_map.specs.Calls.{map_full}
 use Rattle.search_map.specs.steps.Words.{WordAt}
-
--- ---- a word of a pool
-
-pub word-past : (words : List ℕ) (i past : ℕ) → past ≤ 65535 → length words ≤ i → WordAt words i past past
-word-past words i past p h = record { is = sym (get_or-eq_default words past h); small = p }
-
-pub word_in : (words : List ℕ) (i past : ℕ) {r : ℕ} → i < length words → (r ≡ get_or words i 0) × (r ≤ 65535) → WordAt words i past r
-word_in words i past h e = record { is = e.0 ∙ get_d_any words i 0 past h; small = e.1 }
 
 -- ---- a part of the numbers
 
@@ -89,24 +80,14 @@ module _ {numbers : List ℕ} {i value : ℕ} (at : WordAt numbers i 0 value) (r
   names-none h = ap (λ (v : ℕ). ltb v rows) (sym at.is) ∙ le-ltb value rows h
 
 -- the loop over the whole list: its first numbers are 0, 1, 2 ..
-pub record WholeTo (whole : List ℕ) (i : ℕ) : Type 0 where
-  pub within : i ≤ length whole
-  pub so_far : all_below i (λ k. eqb (get_or whole k 0) k) ≡ true
-
-pub whole-start : (whole : List ℕ) → WholeTo whole 0
-whole-start whole = record { within = omega arith; so_far = all_none _ }
-
 module _ (whole : List ℕ) (i : ℕ) where
-  pub whole-next : {value : ℕ} → i < length whole → WholeTo whole i → value ≡ get_or whole i 0 → value ≡ i → WholeTo whole (i + 1)
-  whole-next h s v e = record { within = omega arith; so_far = all_more _ i s.so_far (eq-eqb _ _ (sym v ∙ e)) }
-
   pub whole-fails : {value : ℕ} → i < length whole → value ≡ get_or whole i 0 → (value ≡ i → ⊥) → false ≡ is_whole whole
   unfolding is_whole
   whole-fails h v n = sym (one-fails (length whole) _ i h (ne_eqb (get_or whole i 0) i (λ e. n (v ∙ e))))
 
-  pub whole-done : length whole ≤ i → WholeTo whole i → true ≡ is_whole whole
+  pub whole-done : i ≤ length whole → length whole ≤ i → all_below i (λ k. eqb (get_or whole k 0) k) ≡ true → true ≡ is_whole whole
   unfolding is_whole
-  whole-done h s = all_done _ (length whole) i s.within h s.so_far
+  whole-done w h s = all_done _ (length whole) i w h s
 
 -- ---- the test of 14
 

@@ -9,24 +9,22 @@ use day_rows::kind::Kind;
 use day_rows::row::Row;
 
 // Whether a kind has a choice left.
+#[tactic(auto, unfolding(crate::specs::Map::names_left))]
 fn names_left(kind: u16) -> bool
     ensures { result ≡ names_left kind }
 {
-    if kind < Kind::CHOICE_IS_IN_SLOT {
-        return false;
-    }
-    kind <= Kind::CHOICES_HAVE_OFFSET
+    matches!(kind, Kind::CHOICE_IS_IN_SLOT..=Kind::CHOICES_HAVE_OFFSET)
 }
 
 // Whether a kind has a choice right.
+#[tactic(auto, unfolding(crate::specs::Map::names_right))]
 fn names_right(kind: u16) -> bool
     ensures { result ≡ names_right kind }
 {
-    let is_below = kind < Kind::CHOICES_ARE_IN_SAME_SLOT;
-    if is_below {
-        return false;
-    }
-    kind <= Kind::CHOICES_HAVE_OFFSET
+    matches!(
+        kind,
+        Kind::CHOICES_ARE_IN_SAME_SLOT..=Kind::CHOICES_HAVE_OFFSET
+    )
 }
 
 // Whether a number's row has the choice left.
@@ -94,10 +92,8 @@ pub(crate) fn add_entry(choice: usize, rows: &[u64], numbers: &mut [u16], from: 
     ensures { Wrote numbers.old from (own_entry rows.now choice) result numbers.new }
 {
     let mut at = from;
-    let mut i = 0;
-    while i < rows.len() {
-        at = add_row(choice, i, rows[i], numbers, at);
-        i += 1;
+    for (i, number) in rows.iter().enumerate() {
+        at = add_row(choice, i, *number, numbers, at);
     }
     at
 }

@@ -6,8 +6,6 @@ ghost use Rattle.search_map.specs.Map.{map_of, looked_up, entry_fits, is_whole, 
 ghost use Rattle.search_map.specs.Calls.{map_full};
 ghost use Rattle.search_map.specs.steps.Words.{WordAt};
 
-use base_pools::number::wide_word;
-
 // The most choices, which is as many as the pools of starts and lengths have.
 pub const MOST_CHOICES: usize = 64;
 
@@ -25,7 +23,7 @@ fn word_at(words: &[u16], i: usize, past: usize) -> usize
     if words.len() <= i {
         return past;
     }
-    wide_word(words[i])
+    usize::from(words[i])
 }
 
 // Some of the numbers from a start on, as many of them as there are.
@@ -89,12 +87,10 @@ fn entry_fits(count: usize, starts: &[u16], lengths: &[u16], choice: usize) -> b
 fn entries_fit(choices: usize, count: usize, starts: &[u16], lengths: &[u16]) -> bool
     ensures { result ≡ all_below choices (entry_fits count (map_of starts.now lengths.now [])) }
 {
-    let mut choice = 0;
-    while choice < choices {
+    for choice in 0..choices {
         if !entry_fits(count, starts, lengths, choice) {
             return false;
         }
-        choice += 1;
     }
     true
 }
@@ -103,12 +99,10 @@ fn entries_fit(choices: usize, count: usize, starts: &[u16], lengths: &[u16]) ->
 fn numbers_fit(rows: usize, count: usize, numbers: &[u16]) -> bool
     ensures { result ≡ all_below count (λ i. ltb (get_or numbers.now i 0) rows) }
 {
-    let mut i = 0;
-    while i < count {
+    for i in 0..count {
         if rows <= word_at(numbers, i, 0) {
             return false;
         }
-        i += 1;
     }
     true
 }
@@ -117,12 +111,10 @@ fn numbers_fit(rows: usize, count: usize, numbers: &[u16]) -> bool
 fn is_whole(whole: &[u16]) -> bool
     ensures { result ≡ is_whole whole.now }
 {
-    let mut i = 0;
-    while i < whole.len() {
-        if wide_word(whole[i]) != i {
+    for (i, number) in whole.iter().enumerate() {
+        if usize::from(*number) != i {
             return false;
         }
-        i += 1;
     }
     true
 }

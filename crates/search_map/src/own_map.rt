@@ -8,7 +8,6 @@ ghost use Rattle.search_map.specs.steps.Filling.{PoolsFull, Cleared, Entered, Ow
 
 use super::entry::add_entry;
 use super::map::{MOST_NUMBERS, is_full};
-use base_pools::clear_words;
 use day_rows::check::{Checked, Counts, Takes, check_each_row, counts_in_range};
 use day_rows::refusal::Refusal;
 
@@ -34,13 +33,11 @@ fn add_entries(
         Entered choices rows.now before result after }
 {
     let mut at = 0;
-    let mut choice = 0;
-    while choice < choices {
+    for choice in 0..choices {
         let after = add_entry(choice, rows, numbers, at);
         starts[choice] = at as u16;
         lengths[choice] = (after - at) as u16;
         at = after;
-        choice += 1;
     }
     at
 }
@@ -51,9 +48,9 @@ fn clear(starts: &mut [u16], lengths: &mut [u16], numbers: &mut [u16])
         let after = map_of starts.new lengths.new numbers.new in
         Cleared before after }
 {
-    clear_words(starts);
-    clear_words(lengths);
-    clear_words(numbers);
+    starts.fill(0);
+    lengths.fill(0);
+    numbers.fill(0);
 }
 
 // The pools filled with the own map, or all zero where the map has too many numbers; the answer is how many

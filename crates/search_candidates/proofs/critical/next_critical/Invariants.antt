@@ -1,12 +1,8 @@
 -- The loop's invariant: no slot looked at is critical.
 use mathlib.Core.Path.{◌≡◌}
-use Prim.Native.Nat.{◌≤◌, ◌-◌}
 use Rattle.base_lists.specs.Group.{keep_below}
 use Rattle.search_candidates.specs.steps.Maximums.{is_critical}
 use Rattle.search_candidates.proofs.critical.next_critical.Given as goal
 
 abbrev pub invariant-loop-slot : goal.invariant-loop-slot
-invariant-loop-slot l = (l.from ≤ l.slot) × (l.slot ≤ l.slots) × (keep_below l.slot (is_critical l.choosers l.slot_max l.rest) ≡ keep_below l.from (is_critical l.choosers l.slot_max l.rest))
-
-abbrev pub decreases-loop-slot : goal.decreases-loop-slot
-decreases-loop-slot l = l.slots - l.slot
+invariant-loop-slot l = keep_below l.slot (is_critical l.choosers l.slot_max l.rest) ≡ keep_below l.from (is_critical l.choosers l.slot_max l.rest)

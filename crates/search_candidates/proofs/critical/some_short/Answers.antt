@@ -1,16 +1,6 @@
-use Prim.Native.Nat.{◌-◌}
-use Rattle.search_candidates.proofs.TestLaws.{reached-start, reached-on, short-here, none-short}
-use borrow.Author.Rules.{rules}
+-- A slot that is found is short, and where none is found none is.
+use Rattle.search_candidates.proofs.TestLaws.{short_is}
 use Rattle.search_candidates.proofs.critical.some_short.Goals as goal
 
-pub loop-slot-init : goal.loop-slot-init
-loop-slot-init c = (search rules, reached-start _ _ _)
-
-pub returns-then-together-choosers : goal.returns-then-together-choosers
-returns-then-together-choosers c = short-here _ _ _ _ _ _ _ c.loop-slot-test.true c.load.ensures c.together.ensures c.if-together-choosers.true
-
-pub loop-slot-preserved : goal.loop-slot-preserved
-loop-slot-preserved c = (search rules, reached-on _ _ _ _ _ _ c.loop-slot.invariant.1 c.load.ensures c.together.ensures c.if-together-choosers.false)
-
 pub returns : goal.returns
-returns c = none-short _ _ _ _ _ c.loop-slot.invariant.0 c.loop-slot-test.false c.loop-slot.invariant.1
+returns c = short_is _ _ _ _ _ c.next_critical.ensures

@@ -9,4 +9,4 @@ returns-then-place-slot c =
 
 pub returns : goal.returns
 returns c =
-    c.room_for.ensures ∙ rw (c.extra_of.ensures, c.size_of.ensures, c.right_of.ensures, c.left_of-slot.ensures) (sym (room_tried _ _ _ (c.if-place-slot.false ∙ c.left_of-slot.ensures)))
+    c.room_for.ensures ∙ rw (c.extra_of.ensures, c.load.ensures, c.right_of.ensures, c.left_of-slot.ensures) (sym (room_tried _ _ _ (c.if-place-slot.false ∙ c.left_of-slot.ensures)))

@@ -1,6 +1,5 @@
-use Prim.Native.Nat.{◌-◌}
 use native.Mathlib.Omega.{arith}
-use Rattle.search_map.proofs.Entries.{entry-start, entry-few, entry_next, entry-same, entry_done}
+use Rattle.search_map.proofs.Entries.{entry-start, entry-few, entry_next, entry_done}
 use Rattle.search_map.proofs.entry.add_entry.Goals as goal
 
 pub loop-i-init : goal.loop-i-init
@@ -15,10 +14,6 @@ add_row-at-requires c =
 pub loop-i-preserved : goal.loop-i-preserved
 loop-i-preserved c =
     entry_next _ _ c.loop-i.invariant c.loop-i-test.true c.add_row-at.ensures
-
-pub shape_of-numbers : goal.shape_of-numbers
-shape_of-numbers c =
-    entry-same _ _ c.loop-i.invariant
 
 pub returns : goal.returns
 returns c =

@@ -1,7 +1,6 @@
 -- The loop's invariant: every entry so far ends within the count.
 use mathlib.Core.Path.{◌≡◌}
 use mathlib.Core.Bool.{true}
-use Prim.Native.Nat.{◌-◌, ◌≤◌}
 use Rattle.base_lists.specs.Below.{all_below}
 use mathlib.Core.List.{[]}
 use Rattle.search_map.specs.Map.{map_of, entry_fits}
@@ -9,8 +8,4 @@ use Rattle.search_map.proofs.map.entries_fit.Given as goal
 
 abbrev pub invariant-loop-choice : goal.invariant-loop-choice
 invariant-loop-choice l =
-    (l.choice ≤ l.choices) × (all_below l.choice (entry_fits l.count (map_of l.starts l.lengths [])) ≡ true)
-
-abbrev pub decreases-loop-choice : goal.decreases-loop-choice
-decreases-loop-choice l =
-    l.choices - l.choice
+    all_below l.choice (entry_fits l.count (map_of l.starts l.lengths [])) ≡ true

@@ -6,10 +6,6 @@ pub returns-then-start-eq-NO_ENTRY : goal.returns-then-start-eq-NO_ENTRY
 returns-then-start-eq-NO_ENTRY c =
     looked-whole _ _ _ _ c.word_at-start.ensures _ c.if-start-eq-NO_ENTRY.true
 
-pub part-requires : goal.part-requires
-part-requires c =
-    (c.word_at-start.ensures.small, c.word_at.ensures.small)
-
 pub returns : goal.returns
 returns c =
     looked-part _ _ _ _ c.word_at-start.ensures _ c.if-start-eq-NO_ENTRY.false c.word_at.ensures c.part.ensures

@@ -2,10 +2,6 @@
 use Rattle.search_map.proofs.Filling.{given-cleared, filled_in, filled-over}
 use Rattle.search_map.proofs.own_map.fill.Goals as goal
 
-pub add_entries-count-requires : goal.add_entries-count-requires
-add_entries-count-requires c =
-    given-cleared c.requires c.clear.ensures
-
 pub returns-then-count-le-MOST_NUMBERS : goal.returns-then-count-le-MOST_NUMBERS
 returns-then-count-le-MOST_NUMBERS c =
     filled_in c.requires c.clear.ensures c.add_entries-count.ensures c.if-count-le-MOST_NUMBERS.true
