@@ -1,4 +1,4 @@
-use mathlib.Core.Path.{◌≡◌, ◌∙◌, ap}
+use mathlib.Core.Path.{◌∙◌, ap}
 use Prim.Native.Nat.{ℕ, ◌<◌}
 use native.Mathlib.Omega.{arith}
 use lib.Dec.{eqb}
@@ -29,9 +29,3 @@ loop-domain-preserved c =
     let e = get_or-take c.args.choices c.args.domains.now c.loop-domain.domain-index 0 h in
     let i = c.loop-domain.invariant in
     (must-more _ _ _ _ _ _ i.0 (c.from-must.ensures ∙ one_from _) (c.is_only.ensures ∙ ap (λ (x : ℕ). eqb x (only_place c.args.slot)) e), may_more _ _ _ _ _ _ i.1 (c.from-may.ensures ∙ one_from _) (c.member.ensures ∙ ap (λ (x : ℕ). has x c.args.slot) e))
-
-pub returns : goal.returns
-returns c =
-    let n = length-take-le c.args.choices c.args.domains.now (omega (arith, c.requires, c.told-domains)) in
-    let e : c.loop-domain.domain-index ≡ c.args.choices = omega (arith, n, c.loop-domain-test.false, c.loop-domain.auto.domain-index-end) in
-    (rw e at c.loop-domain.invariant.0, rw e at c.loop-domain.invariant.1)
