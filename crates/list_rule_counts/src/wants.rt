@@ -11,7 +11,6 @@ use list_domains::places::both;
 
 // How many free choices are wanted with one slot more, cut at 65, which is more than any day has.
 fn with_want(need: usize, want: usize) -> usize
-    requires { need ≤ 65 }
     ensures { result ≡ min (need + want) 65 }
 {
     need.saturating_add(want).min(65)

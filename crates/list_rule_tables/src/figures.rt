@@ -35,16 +35,6 @@ pub fn first_in(choices: usize, set: u64) -> usize
     first
 }
 
-// Lets every slot lack all choosers.
-fn lack_all(slots: usize, choosers: usize, lacks: &mut [usize; 24])
-    requires { slots ≤ 24 }
-    ensures { lacks.new ≡ written slots 0 (λ slot. choosers) lacks.old }
-{
-    for slot in 0..slots {
-        lacks[slot] = choosers;
-    }
-}
-
 // Takes a settled choice's maximum from what its one place lacks, if that is one of the slots.
 fn bring(slots: usize, most: u16, domain: u64, lacks: &mut [usize; 24])
     requires { slots ≤ 24 }
@@ -73,7 +63,7 @@ fn each_lack(
         result ≡ lacks_of slots choices choosers maxs.now (free_of choices given) given }
 {
     let mut lacks = [0usize; 24];
-    lack_all(slots, choosers, &mut lacks);
+    lacks[..slots].fill(choosers);
     for choice in 0..choices {
         bring(slots, maxs[choice], domains[choice], &mut lacks);
     }
