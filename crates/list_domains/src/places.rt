@@ -97,24 +97,15 @@ pub fn first_domain(slots: usize, flag: u8) -> u64
     with(every, slots)
 }
 
-// The domains of 64 choices without any place.
-fn no_domains() -> [u64; 64]
-    ensures { length result ≡ 64 }
-{
-    [0u64; 64]
-}
-
 // Each choice's domain before anything is decided; a choice past the list of flags is not optional.
 pub fn first_domains(slots: usize, optional: &[u8]) -> [u64; 64]
     ensures { let flags = optional.now in
         (length result ≡ 64)
         × ((choice : ℕ) → choice < 64 → get_or result choice 0 ≡ first_domain slots (get_or flags choice 0)) }
 {
-    let mut domains = no_domains();
-    let mut choice = 0;
-    while choice < 64 {
-        domains[choice] = first_domain(slots, flag_of(optional, choice));
-        choice += 1;
+    let mut domains = [0u64; 64];
+    for (choice, domain) in domains.iter_mut().enumerate() {
+        *domain = first_domain(slots, flag_of(optional, choice));
     }
     domains
 }

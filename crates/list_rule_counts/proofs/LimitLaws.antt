@@ -1,14 +1,16 @@
 -- What limits make of the figures, as the code comes by it.
 use mathlib.Core.Path.{◌≡◌, refl, sym, ◌∙◌, ap, ap₂}
-use mathlib.Core.Bool.{true, false, cond}
-use mathlib.Core.List.{List, ◌∷◌}
+use mathlib.Core.Bool.{Bool, ◌||◌, cond}
+use mathlib.Core.List.{List, [], ◌∷◌}
 use Prim.Native.Nat.{ℕ, suc, ◌+◌, ◌≤◌, ◌<◌, max, min}
 use native.Mathlib.Numerals.{add-one}
 use native.Mathlib.Omega.{arith}
 use borrow.Author.Tests.{lt-ltb, le-ltb, eq-eqb, ne_eqb}
 use lib.Dec.{eqb}
 use lib.ListN.{length, get_or, set, drop, drop_of_length-le}
-use Rattle.base_lists.proofs.Keep.{drop-at-place, any_here, any_on, any_none}
+use Rattle.std.specs.List.{list_any}
+use Rattle.base_lists.specs.Keep.{any_of}
+use Rattle.base_lists.proofs.Keep.{drop-at-place}
 use Rattle.day_rows.specs.Op.{eq_op, gt_op, geq_op, neq_op, leq_op, lt_op}
 use Rattle.day_rows.specs.Row.{row_of}
 use Rattle.day_rows.specs.declared.row.Row.{Row}
@@ -96,21 +98,8 @@ module _ (by : ℕ → ℕ → ℕ → ℕ) (rows : List ℕ) where
   unfolding limits_change
   rows_end i first figures h e = sym (ap (λ (l : List ℕ). limits_change by l figures) (drop_of_length-le rows h)) ∙ e
 
--- the search for a limit
-module _ (rows : List ℕ) (i : ℕ) (since : has_limit (drop i rows) ≡ has_limit rows) where
-  pub limit-here : (kind : ℕ) → i < length rows → kind ≡ (row_of (get_or rows i 0)).kind → kind ≡ 6 → true ≡ has_limit rows
-  unfolding has_limit
-  limit-here kind h k e =
-      sym (any_here (λ number. eqb (row_of number).kind 6) rows i 0 h (eq-eqb (row_of (get_or rows i 0)).kind 6 (sym k ∙ e))) ∙ since
-
-  pub limit-on : (kind : ℕ) → i < length rows → kind ≡ (row_of (get_or rows i 0)).kind → (kind ≡ 6 → ⊥) → has_limit (drop (i + 1) rows) ≡ has_limit rows
-  unfolding has_limit
-  limit-on kind h k n =
-      sym (any_on (λ number. eqb (row_of number).kind 6) rows i 0 h (ne_eqb (row_of (get_or rows i 0)).kind 6 (λ e. n (k ∙ e)))) ∙ since
-
-  pub limit-none : length rows ≤ i → false ≡ has_limit rows
-  unfolding has_limit
-  limit-none h = sym (any_none (λ number. eqb (row_of number).kind 6) rows i h) ∙ since
-
-pub limit-start : (rows : List ℕ) → has_limit (drop 0 rows) ≡ has_limit rows
-limit-start rows = refl
+-- std's test of some row is the rules' own
+pub some-limit : (rows : List ℕ) → list_any (λ number. eqb (row_of number).kind 6) rows ≡ has_limit rows
+unfolding has_limit any_of
+some-limit [] = refl
+some-limit (number ∷ rows) = ap (λ (b : Bool). eqb (row_of number).kind 6 || b) (some-limit rows)

@@ -9,8 +9,6 @@ ghost use Rattle.list_rule_counts.specs.steps.Figures.{beyond_in};
 
 use super::counts::{least_counts, settled_counts};
 use super::limits::limit_by_rows;
-use base_pools::number::less;
-use base_pools::zeros;
 use day_rows::check::Counts;
 use day_rows::kind::Kind;
 use day_rows::row::Row;
@@ -30,29 +28,7 @@ pub struct Bounds {
 pub fn has_limit(rows: &[u64]) -> bool
     ensures { result ≡ has_limit rows.now }
 {
-    let mut i = 0;
-    while i < rows.len() {
-        if Row::kind_of(rows[i]) == Kind::SLOT_HAS_LIMITED_SIZE {
-            return true;
-        }
-        i += 1;
-    }
-    false
-}
-
-// Each slot's first count that it can't have, before any limit: past every limit, so that a slot without
-// limits has room for every choice.
-fn no_ends() -> [usize; 24]
-    ensures { result ≡ replicate 24 65537 }
-{
-    [65537usize; 24]
-}
-
-// What of one slot's figure is left to the free choices.
-fn beyond(figure: usize, settled: usize) -> usize
-    ensures { result ≡ figure - settled }
-{
-    less(figure, settled)
+    rows.iter().any(|number| Row::kind_of(*number) == Kind::SLOT_HAS_LIMITED_SIZE)
 }
 
 // What of each slot's figure is left to the free choices.
@@ -60,11 +36,9 @@ fn each_beyond(slots: usize, figures: &[usize; 24], settled: &[usize; 24]) -> [u
     requires { slots ≤ 24 }
     ensures { result ≡ written slots 0 (beyond_in figures.now settled.now) (replicate 24 0) }
 {
-    let mut left = zeros::figures();
-    let mut slot = 0;
-    while slot < slots {
-        left[slot] = beyond(figures[slot], settled[slot]);
-        slot += 1;
+    let mut left = [0usize; 24];
+    for slot in 0..slots {
+        left[slot] = figures[slot].saturating_sub(settled[slot]);
     }
     left
 }
@@ -76,12 +50,10 @@ fn some_crossed(slots: usize, least: &[usize; 24], under: &[usize; 24]) -> bool
         let high = under.now in
         result ≡ not (all_below slots (λ slot. ltb (get_or low slot 0) (get_or high slot 0))) }
 {
-    let mut slot = 0;
-    while slot < slots {
+    for slot in 0..slots {
         if under[slot] <= least[slot] {
             return true;
         }
-        slot += 1;
     }
     false
 }
@@ -93,8 +65,8 @@ fn no_bounds() -> Bounds
 {
     Bounds {
         broken: false,
-        wants: zeros::figures(),
-        rooms: zeros::figures(),
+        wants: [0usize; 24],
+        rooms: [0usize; 24],
     }
 }
 
@@ -118,7 +90,9 @@ fn fitting_bounds(
 {
     let settled = settled_counts(counts.slots, counts.choices, domains);
     let mut least = least_counts(counts.slots, from, lacks, tables, &settled);
-    let mut under = no_ends();
+    // The first count that a slot can't have is past every limit before any, so that a slot without limits has
+    // room for every choice.
+    let mut under = [65537usize; 24];
     limit_by_rows(rows, &mut least, &mut under);
     Bounds {
         broken: some_crossed(counts.slots, &least, &under),

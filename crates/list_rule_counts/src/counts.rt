@@ -6,7 +6,6 @@ ghost use Rattle.list_rule_tables.specs.steps.SettledFigures.{changed_by};
 ghost use Rattle.list_rule_counts.specs.steps.CountRule.{settled_count};
 ghost use Rattle.list_rule_counts.specs.steps.Figures.{fewest_in};
 
-use base_pools::zeros::figures;
 use list_domains::places::{is_settled, lowest_place};
 use list_tables::entry::least_at;
 use list_tables::shape::TABLES;
@@ -34,11 +33,9 @@ pub(crate) fn settled_counts(slots: usize, choices: usize, domains: &[u64; 64]) 
         (result ≡ written slots 0 count (replicate 24 0))
         × ((slot : ℕ) → slot < slots → get_or result slot 0 ≤ 64) }
 {
-    let mut settled = figures();
-    let mut choice = 0;
-    while choice < choices {
-        count_one(slots, domains[choice], &mut settled);
-        choice += 1;
+    let mut settled = [0usize; 24];
+    for domain in &domains[..choices] {
+        count_one(slots, *domain, &mut settled);
     }
     settled
 }
@@ -56,12 +53,10 @@ pub(crate) fn least_counts(
         let fewest = fewest_in entry from lacks.now settled.now in
         result ≡ written slots 0 fewest (replicate 24 0) }
 {
-    let mut least = figures();
-    let mut slot = 0;
-    while slot < slots {
+    let mut least = [0usize; 24];
+    for slot in 0..slots {
         let more = least_at(tables, 0, from, lacks[slot]);
         least[slot] = settled[slot] + more;
-        slot += 1;
     }
     least
 }

@@ -4,7 +4,6 @@ ghost use Rattle.std.specs.Prelude.{◌≡◌, cond, suc, ◌+◌, ◌≤◌, �
 ghost use Rattle.day_rows.specs.Row.{row_of};
 ghost use Rattle.list_rule_counts.specs.steps.CountRule.{raised_by, lowered_by, limit_changes, limits_change};
 
-use base_pools::number::{larger, smaller, wide_word};
 use day_rows::kind::Kind;
 use day_rows::op::Op;
 use day_rows::row::Row;
@@ -34,9 +33,9 @@ fn raised(op: u16, limit: usize, count: usize) -> usize
     ensures { result ≡ raised_by op limit count }
 {
     match op {
-        Op::EQ => larger(count, limit),
-        Op::GEQ => larger(count, limit),
-        Op::GT => larger(count, past(limit)),
+        Op::EQ => count.max(limit),
+        Op::GEQ => count.max(limit),
+        Op::GT => count.max(past(limit)),
         Op::NEQ => other_than(count, limit),
         _ => count,
     }
@@ -48,9 +47,9 @@ fn lowered(op: u16, limit: usize, under: usize) -> usize
     ensures { result ≡ lowered_by op limit under }
 {
     match op {
-        Op::EQ => smaller(under, past(limit)),
-        Op::LEQ => smaller(under, past(limit)),
-        Op::LT => smaller(under, limit),
+        Op::EQ => under.min(past(limit)),
+        Op::LEQ => under.min(past(limit)),
+        Op::LT => under.min(limit),
         _ => under,
     }
 }
@@ -68,7 +67,7 @@ fn limit_by_row(number: u64, least: &mut [usize; 24], under: &mut [usize; 24])
         return;
     }
     let op = Row::extra_of(number);
-    let limit = wide_word(Row::right_of(number));
+    let limit = usize::from(Row::right_of(number));
     least[slot] = raised(op, limit, least[slot]);
     under[slot] = lowered(op, limit, under[slot]);
 }
@@ -78,9 +77,7 @@ pub(crate) fn limit_by_rows(rows: &[u64], least: &mut [usize; 24], under: &mut [
     ensures least_after { least.new ≡ limits_change raised_by rows.now least.old }
     ensures under_after { under.new ≡ limits_change lowered_by rows.now under.old }
 {
-    let mut i = 0;
-    while i < rows.len() {
-        limit_by_row(rows[i], least, under);
-        i += 1;
+    for number in rows {
+        limit_by_row(*number, least, under);
     }
 }

@@ -7,7 +7,6 @@ ghost use Rattle.list_rule_tables.specs.steps.Figures.{first_in};
 ghost use Rattle.list_rule_counts.specs.steps.CountRule.{slot_rule, rooms_below};
 
 use base_choice_sets::set::member;
-use base_pools::number::{less, wide_word};
 use list_domains::places::kept;
 use list_tables::entry::least_at;
 use list_tables::shape::TABLES;
@@ -37,7 +36,7 @@ fn left_with(
     if !free {
         return domain;
     }
-    let others = least_at(tables, 0, from, less(lack, wide_word(most)));
+    let others = least_at(tables, 0, from, lack.saturating_sub(usize::from(most)));
     if !is_full(room, others) {
         return domain;
     }
@@ -69,8 +68,7 @@ fn narrow_slot(
         return;
     }
     let lack = lacks[slot];
-    let mut choice = from;
-    while choice < choices {
+    for choice in from..choices {
         let domain = domains[choice];
         domains[choice] = left_with(
             member(free, choice),
@@ -82,7 +80,6 @@ fn narrow_slot(
             slot,
             domain,
         );
-        choice += 1;
     }
 }
 
@@ -105,11 +102,9 @@ pub(crate) fn narrow_by_rooms(
         let given = domains.old in
         domains.new ≡ rooms_below entry choices maxs.now free from lack room slots given }
 {
-    let mut slot = 0;
-    while slot < slots {
+    for slot in 0..slots {
         narrow_slot(
             choices, maxs, tables, free, from, lacks, rooms, slot, domains,
         );
-        slot += 1;
     }
 }

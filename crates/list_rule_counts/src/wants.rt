@@ -11,13 +11,9 @@ use list_domains::places::both;
 
 // How many free choices are wanted with one slot more, cut at 65, which is more than any day has.
 fn with_want(need: usize, want: usize) -> usize
-    requires { need ≤ 65 }
     ensures { result ≡ min (need + want) 65 }
 {
-    if 65 - need <= want {
-        return 65;
-    }
-    need + want
+    need.saturating_add(want).min(65)
 }
 
 // How many free choices all slots want together, cut at 65.
@@ -26,10 +22,8 @@ fn need_of(slots: usize, wants: &[usize; 24]) -> usize
     ensures { result ≡ min (sum_below slots (λ slot. get_or wants.now slot 0)) 65 }
 {
     let mut need = 0;
-    let mut slot = 0;
-    while slot < slots {
-        need = with_want(need, wants[slot]);
-        slot += 1;
+    for want in &wants[..slots] {
+        need = with_want(need, *want);
     }
     need
 }
@@ -40,10 +34,8 @@ fn needy_slots(slots: usize, wants: &[usize; 24]) -> u64
     ensures { result ≡ set_of slots (λ slot. ltb 0 (get_or wants.now slot 0)) }
 {
     let mut set = 0;
-    let mut slot = 0;
-    while slot < slots {
+    for slot in 0..slots {
         set = with_if(set, slot, 0 < wants[slot]);
-        slot += 1;
     }
     set
 }
@@ -63,11 +55,9 @@ fn narrow_free(choices: usize, free: u64, set: u64, domains: &mut [u64; 64])
     requires { choices ≤ 64 }
     ensures { domains.new ≡ each_below choices (keeps_of free set) domains.old }
 {
-    let mut choice = 0;
-    while choice < choices {
+    for choice in 0..choices {
         let domain = domains[choice];
         domains[choice] = kept_of(member(free, choice), set, domain);
-        choice += 1;
     }
 }
 

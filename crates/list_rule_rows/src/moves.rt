@@ -36,10 +36,10 @@ fn with_omission(slots: usize, moved: u64, domain: u64) -> u64
 pub(crate) fn facing_places(slots: usize, domain: u64, other: u64, up: usize, down: usize) -> u64
     ensures { result ≡ facing_places slots domain other up down }
 {
-    if up <= down {
-        let moved = moved_up(slots, other, down - up);
-        return both(domain, with_omission(slots, moved, other));
-    }
-    let moved = moved_down(slots, other, up - down);
+    let moved = if up <= down {
+        moved_up(slots, other, down - up)
+    } else {
+        moved_down(slots, other, up - down)
+    };
     both(domain, with_omission(slots, moved, other))
 }

@@ -24,9 +24,7 @@ fn narrow_by_any(counts: Counts, number: u64, domains: &mut [u64; 64])
 pub fn narrow_by_rows(counts: Counts, rows: &[u64], domains: &mut [u64; 64])
     ensures { domains.new ≡ rows_rule counts rows.now domains.old }
 {
-    let mut i = 0;
-    while i < rows.len() {
-        narrow_by_any(counts, rows[i], domains);
-        i += 1;
+    for number in rows {
+        narrow_by_any(counts, *number, domains);
     }
 }

@@ -3,11 +3,10 @@ use mathlib.Core.Path.{◌≡◌, refl, sym, ◌∙◌, ap, ap₂}
 use mathlib.Core.Bool.{Bool, true, false, ◌&&◌, not, cond, false≢true}
 use mathlib.Core.List.{List}
 use Prim.Native.Nat.{ℕ, zero, suc, ◌+◌, ◌-◌, ◌^◌, ◌≤◌, ◌<◌}
-use native.Mathlib.Decide.{ℕ_discrete}
 use native.Mathlib.Numerals.{add-one}
 use native.Mathlib.Omega.{arith}
 use borrow.Author.Tests.{le-leb, lt-leb, leb-true, leb-false, le-ltb, lt-ltb, eq-eqb, ne_eqb, eqb-true}
-use lib.Arith.{lt_of_le-ne}
+use mir.Val.{bool_byte}
 use lib.Dec.{eqb, ltb, leb}
 use lib.ListN.{length, get_or, set}
 use lib.Seq.{get_or-set_other}
@@ -22,7 +21,7 @@ use Rattle.list_domains.specs.steps.Domains.{only_place, kept_places, each_below
 use Rattle.list_domains.proofs.PlaceLaws.{kept-all}
 use Rattle.list_domains.proofs.DomainLaws.{only_has, each_same}
 use Rattle.list_rule_slots.specs.steps.SlotRules.{certain, possible, each_left, amounts_fit, slots_rule, must_count, may_count, op_can, limit_leaves, limit_fits, limit_rule}
-use Rattle.list_rule_slots.specs.steps.Limits.{limit_idle, InWords}
+use Rattle.list_rule_slots.specs.steps.Limits.{limit_idle}
 
 -- ---- small functions
 
@@ -37,14 +36,15 @@ sum_by a b c h = go (leb a (c - b)) refl
     go true t = sym (le-leb (a + b) c (omega (arith, leb-true a (c - b) t)))
     go false t = sym (lt-leb (a + b) c (omega (arith, leb-false a (c - b) t)))
 
--- one, or none
-pub one_true : (test : Bool) → test ≡ true → 1 ≡ one test
+-- 1 for a test that holds, else 0: std's word for it, and the rules'
+pub one_from : (test : Bool) → bool_byte test ≡ one test
 unfolding one
-one_true test e = rw e
+one_from true = refl
+one_from false = refl
 
-pub one_false : (test : Bool) → test ≡ false → 0 ≡ one test
-unfolding one
-one_false test e = rw e
+pub from_le : (test : Bool) → bool_byte test ≤ 1
+from_le true = omega arith
+from_le false = omega arith
 
 pub more-none : (n : ℕ) (test : Bool) → test ≡ true → n ≡ n + one (not test)
 unfolding one
@@ -206,23 +206,6 @@ limit_step row must may choice domain = limit_leaves row must may domain
 
 -- ---- a limit passed over
 
--- the domains read so far are numbers of 64 bits
-pub words_none : (domains : List ℕ) → InWords 0 domains
-unfolding InWords
-words_none domains choice l = absurd (omega (arith, l))
-
-pub words_more : (n : ℕ) (domains : List ℕ) → InWords n domains → get_or domains n 0 < 2 ^ 64 → InWords (n + 1) domains
-unfolding InWords
-words_more n domains w h choice l = go (ℕ_discrete choice n)
-  where
-    go : Dec (choice ≡ n) → get_or domains choice 0 < 2 ^ 64
-    go (yes e) = rw e h
-    go (no e) = w choice (lt_of_le-ne (omega (arith, l)) e)
-
-words_at : (n : ℕ) (domains : List ℕ) (choice : ℕ) → InWords n domains → choice < n → get_or domains choice 0 < 2 ^ 64
-unfolding InWords
-words_at n domains choice w l = w choice l
-
 module _ (row : Row) (must may : ℕ) where
   -- the row's op and limit
   abbrev can : ℕ → ℕ → Bool
@@ -234,9 +217,9 @@ module _ (row : Row) (must may : ℕ) where
   slack_first a p f = rw (sym p ∙ f)
 
   module _ (a : Bool) (p : a ≡ op_can row.extra (must + 1) may row.right) (t : a ≡ true)
-      (high : ℕ) (l : high ≡ may - one true) (b : Bool) (q : b ≡ op_can row.extra must high row.right) where
+      (high : ℕ) (l : high ≡ may - 1) (b : Bool) (q : b ≡ op_can row.extra must high row.right) where
     low-is : b ≡ op_can row.extra must (may - 1) row.right
-    low-is = q ∙ ap (can must) (l ∙ sym (less_one may true refl))
+    low-is = q ∙ ap (can must) l
 
     pub slack_second : b ≡ false → false ≡ limit_idle row must may
     unfolding limit_idle
@@ -252,12 +235,12 @@ module _ (row : Row) (must may : ℕ) where
         unfolding limit_idle
         slack_fourth f = rw (sym p ∙ t, sym low-is ∙ u, sym r ∙ v, sym s ∙ f)
 
-        pub slack_by : d ≡ true → (lower upper : ℕ) → lower ≡ must - one true → upper ≡ may - one true
+        pub slack_by : d ≡ true → (lower upper : ℕ) → lower ≡ must - 1 → upper ≡ may - 1
             → (e : Bool) → e ≡ op_can row.extra lower upper row.right → e ≡ limit_idle row must may
         unfolding limit_idle
         slack_by w lower upper m n e g =
             rw (sym p ∙ t, sym low-is ∙ u, sym r ∙ v, sym s ∙ w)
-            (g ∙ ap₂ can (m ∙ sym (less_one must true refl)) (n ∙ sym (less_one may true refl)))
+            (g ∙ ap₂ can m n)
 
   -- a limit is idle where all five tests hold
   idle_means : limit_idle row must may ≡ true
@@ -357,9 +340,9 @@ module _ (counts : Counts) (row : Row) (domains : List ℕ) where
 
   -- an idle limit is passed over
   pub limit_spared : (must may : ℕ) (test : Bool) → counts.choices ≤ 64 → counts.slots ≤ 24 → row.left < counts.slots
-      → must ≡ must_count counts.choices domains row.left → may ≡ may_count counts.choices domains row.left → InWords counts.choices domains
+      → must ≡ must_count counts.choices domains row.left → may ≡ may_count counts.choices domains row.left → ((i : ℕ) → get_or domains i 0 < 2 ^ 64)
       → test ≡ limit_idle row must may → test ≡ true → domains ≡ limit_rule counts row domains
   limit_spared must may test c s h a b w e t =
       limit-done must may domains c s h a b
       (sym (each_same counts.choices (limit_step row must may) domains
-      λ i l. limit-keeps row must may (sym e ∙ t) (omega (arith, s, h)) (get_or domains i 0) (words_at counts.choices domains i w l)))
+      λ i l. limit-keeps row must may (sym e ∙ t) (omega (arith, s, h)) (get_or domains i 0) (w i)))

@@ -4,7 +4,7 @@ ghost use Rattle.base_lists.specs.Below.{one};
 ghost use Rattle.day_rows.specs.Row.{row_of};
 ghost use Rattle.base_choice_sets.specs.Sets.{has};
 ghost use Rattle.list_rule_slots.specs.steps.SlotRules.{must_count, may_count, op_can, limit_leaves, limit_rule};
-ghost use Rattle.list_rule_slots.specs.steps.Limits.{limit_idle, InWords};
+ghost use Rattle.list_rule_slots.specs.steps.Limits.{limit_idle};
 
 use base_choice_sets::set::member;
 use day_rows::check::Counts;
@@ -19,39 +19,17 @@ struct SlotCounts {
     may: usize,
 }
 
-// 1 for a test that holds, else 0.
-fn one_if(test: bool) -> usize
-    ensures { (result ≡ one test) × (result ≤ 1) }
-{
-    if test {
-        return 1;
-    }
-    0
-}
-
-// 1 for a domain that has the slot, else 0; and a domain is a number of 64 bits, which an array
-// behind a reference doesn't tell.
-fn one_if_in(domain: u64, slot: usize) -> usize
-    ensures { (result ≡ one (has domain slot)) × (result ≤ 1) × (domain < 2 ^ 64) }
-{
-    one_if(member(domain, slot))
-}
-
 // How many choices must stand in a slot, and how many may, in one pass over the choices.
 fn slot_counts(choices: usize, slot: usize, domains: &[u64; 64]) -> SlotCounts
     requires { choices ≤ 64 }
     ensures { let given = domains.now in
-        (result.must ≡ must_count choices given slot) × (result.may ≡ may_count choices given slot)
-        × InWords choices given }
+        (result.must ≡ must_count choices given slot) × (result.may ≡ may_count choices given slot) }
 {
     let mut must = 0;
     let mut may = 0;
-    let mut choice = 0;
-    while choice < choices {
-        let domain = domains[choice];
-        must += one_if(is_only(domain, slot));
-        may += one_if_in(domain, slot);
-        choice += 1;
+    for domain in &domains[..choices] {
+        must += usize::from(is_only(*domain, slot));
+        may += usize::from(member(*domain, slot));
     }
     SlotCounts { must, may }
 }
@@ -91,30 +69,6 @@ fn op_can(op: u16, low: usize, high: usize, limit: usize) -> bool
     }
 }
 
-// A count with one more where the test fails.
-fn with_another(count: usize, test: bool) -> usize
-    requires { count ≤ 64 }
-    ensures { result ≡ count + one (not test) }
-{
-    if test {
-        return count;
-    }
-    count + 1
-}
-
-// A count with one less where the test holds.
-fn without(count: usize, test: bool) -> usize
-    ensures { result ≡ count - one test }
-{
-    if !test {
-        return count;
-    }
-    if count == 0 {
-        return 0;
-    }
-    count - 1
-}
-
 // What a row of kind 6 leaves of one domain, by the counts of its slot.
 fn limit_leaves(row: Row, counts: SlotCounts, domain: u64) -> u64
     requires { (counts.must ≤ 64) × (counts.may ≤ 64) }
@@ -126,14 +80,14 @@ fn limit_leaves(row: Row, counts: SlotCounts, domain: u64) -> u64
     let has = member(domain, slot);
     let stands = op_can(
         row.extra,
-        with_another(counts.must, only),
-        with_another(counts.may, has),
+        counts.must + usize::from(!only),
+        counts.may + usize::from(!has),
         limit,
     );
     let leaves = op_can(
         row.extra,
-        without(counts.must, only),
-        without(counts.may, has),
+        counts.must.saturating_sub(usize::from(only)),
+        counts.may.saturating_sub(usize::from(has)),
         limit,
     );
     kept(domain, slot, stands, leaves)
@@ -149,7 +103,7 @@ fn is_slack(row: Row, counts: SlotCounts) -> bool
     if !op_can(row.extra, counts.must + 1, counts.may, limit) {
         return false;
     }
-    if !op_can(row.extra, counts.must, without(counts.may, true), limit) {
+    if !op_can(row.extra, counts.must, counts.may.saturating_sub(1), limit) {
         return false;
     }
     if !op_can(row.extra, counts.must, counts.may, limit) {
@@ -160,8 +114,8 @@ fn is_slack(row: Row, counts: SlotCounts) -> bool
     }
     op_can(
         row.extra,
-        without(counts.must, true),
-        without(counts.may, true),
+        counts.must.saturating_sub(1),
+        counts.may.saturating_sub(1),
         limit,
     )
 }
@@ -175,10 +129,8 @@ fn narrow_each(counts: Counts, row: Row, domains: &mut [u64; 64])
     if is_slack(row, slot_counts) {
         return;
     }
-    let mut choice = 0;
-    while choice < counts.choices {
+    for choice in 0..counts.choices {
         domains[choice] = limit_leaves(row, slot_counts, domains[choice]);
-        choice += 1;
     }
 }
 

@@ -5,7 +5,6 @@ ghost use Rattle.base_choice_sets.specs.Sets.{has};
 ghost use Rattle.list_domains.specs.steps.Domains.{only_place, settled};
 ghost use Rattle.list_rule_slots.specs.steps.Sums.{NextIn, added_to, Small, SumsOf};
 
-use base_pools::number::wide_word;
 use day_rows::check::Counts;
 use list_domains::places::{is_settled, lowest_place};
 
@@ -50,6 +49,7 @@ fn add_free(slots: usize, most: usize, domain: u64, mays: &mut [usize; 24])
     ensures { mays.new ≡ added_to slots (has domain) most mays.old }
 {
     let mut slot = next_member(slots, domain, 0);
+    // No count: it goes from one of the domain's slots to the next, past those that it hasn't.
     while slot < slots {
         mays[slot] += most;
         slot = next_member(slots, domain, slot + 1);
@@ -95,16 +95,14 @@ pub(crate) fn add_choices(
         let may = mays.new in
         SumsOf counts.slots counts.choices mins.now maxs.now given must may }
 {
-    let mut choice = 0;
-    while choice < counts.choices {
+    for choice in 0..counts.choices {
         add_choice(
             counts.slots,
-            wide_word(mins[choice]),
-            wide_word(maxs[choice]),
+            usize::from(mins[choice]),
+            usize::from(maxs[choice]),
             domains[choice],
             musts,
             mays,
         );
-        choice += 1;
     }
 }

@@ -5,29 +5,17 @@ ghost use Rattle.list_rule_slots.specs.steps.SlotRules.{certain, possible, slots
 
 use super::limits::between;
 use super::slot_sums::{add_choices, next_member};
-use base_pools::number::wide_word;
-use base_pools::zeros::figures;
 use day_rows::check::Counts;
 use list_domains::places::{is_settled, kept};
 
-// 'sum of min <= H', with one minimum more: it is taken from H, so that no sum can be too large.
-fn minimum_fits(sure: usize, least: usize, choosers: usize) -> bool
-    ensures { result ≡ leb (sure + least) choosers }
+// Whether two numbers together are at most a third: the second is taken from it, so that no sum can be too large.
+fn sum_fits(one: usize, other: usize, whole: usize) -> bool
+    ensures { result ≡ leb (one + other) whole }
 {
-    if choosers < least {
+    if whole < other {
         return false;
     }
-    sure <= choosers - least
-}
-
-// 'H <= sum of max', with one maximum less.
-fn maximum_spared(choosers: usize, most: usize, able: usize) -> bool
-    ensures { result ≡ leb (choosers + most) able }
-{
-    if able < most {
-        return false;
-    }
-    choosers <= able - most
+    one <= whole - other
 }
 
 // Whether 'sum of min <= H <= sum of max' can hold of every slot, by what must and what may stand there.
@@ -37,17 +25,16 @@ fn in_order(counts: Counts, musts: &[usize; 24], mays: &[usize; 24]) -> bool
         let may : ℕ → ℕ = λ slot. get_or mays.now slot 0 in
         result ≡ in_order counts must may }
 {
-    let mut slot = 0;
-    while slot < counts.slots {
+    for slot in 0..counts.slots {
         if !between(musts[slot], counts.choosers, mays[slot]) {
             return false;
         }
-        slot += 1;
     }
     true
 }
 
-// What a slot's sums leave to a free choice that has the slot.
+// What a slot's sums leave to a free choice that has the slot: it may stand there by 'sum of min <= H' with its
+// minimum more, and elsewhere by 'H <= sum of max' with its maximum less.
 fn slot_leaves(
     choosers: usize,
     slot: usize,
@@ -59,8 +46,8 @@ fn slot_leaves(
 ) -> u64
     ensures { result ≡ kept_places left slot (leb (sure + least) choosers) (leb (choosers + most) able) }
 {
-    let stands = minimum_fits(sure, least, choosers);
-    let leaves = maximum_spared(choosers, most, able);
+    let stands = sum_fits(sure, least, choosers);
+    let leaves = sum_fits(choosers, most, able);
     kept(left, slot, stands, leaves)
 }
 
@@ -82,6 +69,7 @@ fn slots_leave(
 {
     let mut left = domain;
     let mut slot = next_member(counts.slots, domain, 0);
+    // No count: it goes from one of the domain's slots to the next, past those that it hasn't.
     while slot < counts.slots {
         left = slot_leaves(
             counts.choosers,
@@ -140,18 +128,16 @@ fn narrow_each_choice(
         domains.new ≡ each_left counts mins.now maxs.now must may given }
 {
     let ordered = in_order(counts, musts, mays);
-    let mut choice = 0;
-    while choice < counts.choices {
+    for choice in 0..counts.choices {
         domains[choice] = sums_leave(
             counts,
             ordered,
             musts,
             mays,
-            wide_word(mins[choice]),
-            wide_word(maxs[choice]),
+            usize::from(mins[choice]),
+            usize::from(maxs[choice]),
             domains[choice],
         );
-        choice += 1;
     }
 }
 
@@ -164,8 +150,8 @@ fn narrow_by_each_slot(counts: Counts, mins: &[u16], maxs: &[u16], domains: &mut
         let may = possible counts.choices maxs.now given in
         domains.new ≡ each_left counts mins.now maxs.now must may given }
 {
-    let mut musts = figures();
-    let mut mays = figures();
+    let mut musts = [0usize; 24];
+    let mut mays = [0usize; 24];
     add_choices(counts, mins, maxs, domains, &mut musts, &mut mays);
     narrow_each_choice(counts, &musts, &mays, mins, maxs, domains);
 }

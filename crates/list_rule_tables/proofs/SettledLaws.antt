@@ -1,7 +1,7 @@
 -- The settled choices in one pass give what a pass for each slot gives.
 use mathlib.Core.Path.{◌≡◌, refl, sym, ◌∙◌, ap, ap₂}
 use mathlib.Core.Bool.{Bool, true, false, ◌&&◌, not, cond}
-use mathlib.Core.List.{List}
+use mathlib.Core.List.{List, [], ◌∷◌, ◌++◌}
 use Prim.Native.Nat.{ℕ, zero, suc, ◌+◌, ◌-◌, ◌≤◌, ◌<◌}
 use native.Mathlib.Decide.{ℕ_discrete}
 use native.Mathlib.Nat.{not-suc-le-zero}
@@ -9,13 +9,14 @@ use native.Mathlib.Numerals.{add-one}
 use native.Mathlib.Omega.{arith}
 use borrow.Author.Tests.{lt-ltb, le-ltb, ltb-true, ltb-false, eq-eqb, ne_eqb}
 use lib.Dec.{eqb, ltb}
-use lib.ListN.{length, get_or, set, replicate, length-replicate}
-use lib.Seq.{set-set, set_comm}
+use lib.ListN.{length, get_or, set, drop, replicate, length-replicate}
+use lib.Seq.{set-set, set_comm, set-append_seam, drop-cons}
+use Rattle.std.proofs.lemmas.List.{append_assoc, replicate-append-replicate}
 use Rattle.base_lists.specs.Below.{sum_below}
 use Rattle.base_choice_sets.specs.Sets.{has}
 use Rattle.base_choice_sets.proofs.SetLaws.{has-set}
 use Rattle.list_tables.specs.steps.Tables.{written}
-use Rattle.list_tables.proofs.TableLaws.{written_in, written-more}
+use Rattle.list_tables.proofs.TableLaws.{written_in}
 use Rattle.list_domains.specs.steps.Domains.{settled, lowest_place}
 use Rattle.list_domains.proofs.LowestLaws.{lowest_only}
 use Rattle.list_rule_tables.specs.steps.Figures.{free_of, settled_in, settled_sum, lack_of, lacks_of}
@@ -112,13 +113,21 @@ module _ (slots choices : ℕ) (domains first : List ℕ) (few : slots ≤ 64) (
 
 -- ---- the lacks
 
--- every slot lacks all choosers, one slot more
-pub all-step : (choosers slot : ℕ) (first lacks : List ℕ) → lacks ≡ written slot 0 (λ s. choosers) first
-    → set lacks slot choosers ≡ written (slot + 1) 0 (λ s. choosers) first
-all-step choosers slot first lacks e =
-    let z : slot ≡ 0 + slot = omega arith in
-    ap (λ (l : List ℕ). set l slot choosers) e ∙ ap (λ (x : ℕ). set (written slot 0 (λ s. choosers) first) x choosers) z
-    ∙ written-more 0 (λ s. choosers) first slot
+-- the first slots lack all choosers
+pub lacks-filled : (choosers slots : ℕ) (first : List ℕ) → slots ≤ length first → replicate slots choosers ++ drop slots first ≡ written slots 0 (λ s. choosers) first
+unfolding written
+lacks-filled choosers zero first h = refl
+lacks-filled choosers (suc n) first h =
+    let front : List ℕ = replicate n choosers in
+    let rest : List ℕ = drop (suc n) first in
+    let size : length front ≡ n = length-replicate n choosers in
+    let longer : front ++ (choosers ∷ []) ≡ replicate (suc n) choosers = replicate-append-replicate n 1 choosers ∙ ap (λ (k : ℕ). replicate k choosers) (add-one n) in
+    let whole : front ++ drop n first ≡ front ++ (get_or first n 0 ∷ rest) = ap (λ (l : List ℕ). front ++ l) (drop-cons first n 0 (omega (arith, h))) in
+    let one : set (front ++ (get_or first n 0 ∷ rest)) n choosers ≡ front ++ (choosers ∷ rest) =
+    ap (λ (k : ℕ). set (front ++ (get_or first n 0 ∷ rest)) k choosers) (sym size) ∙ set-append_seam front (get_or first n 0) rest choosers in
+    ap (λ (l : List ℕ). l ++ rest) (sym longer) ∙ append_assoc front (choosers ∷ []) rest
+    ∙ sym (ap (λ (l : List ℕ). set l n choosers) (sym (lacks-filled choosers n first (omega (arith, h))) ∙ whole) ∙ one)
+    ∙ ap (λ (k : ℕ). set (written n 0 (λ s. choosers) first) k choosers) (omega arith)
 
 -- what is left of a lack, by a maximum as wide as the lack
 pub lack-left : (lack most wide left : ℕ) → left ≡ lack - wide → wide ≡ most → left ≡ lack - most

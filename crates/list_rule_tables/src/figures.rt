@@ -5,8 +5,6 @@ ghost use Rattle.list_rule_tables.specs.steps.Figures.{free_of, first_in, lacks_
 ghost use Rattle.list_rule_tables.specs.steps.SettledFigures.{changed_by};
 
 use base_choice_sets::set::with_if;
-use base_pools::number::{less, wide_word};
-use base_pools::zeros::figures;
 use day_rows::check::Counts;
 use list_domains::places::{is_settled, lowest_place};
 
@@ -16,11 +14,9 @@ fn free_choices(choices: usize, domains: &[u64; 64]) -> u64
     ensures { result ≡ free_of choices domains.now }
 {
     let mut free = 0;
-    let mut choice = 0;
-    while choice < choices {
+    for choice in 0..choices {
         let settled = is_settled(domains[choice]);
         free = with_if(free, choice, !settled);
-        choice += 1;
     }
     free
 }
@@ -39,18 +35,6 @@ pub fn first_in(choices: usize, set: u64) -> usize
     first
 }
 
-// Lets every slot lack all choosers.
-fn lack_all(slots: usize, choosers: usize, lacks: &mut [usize; 24])
-    requires { slots ≤ 24 }
-    ensures { lacks.new ≡ written slots 0 (λ slot. choosers) lacks.old }
-{
-    let mut slot = 0;
-    while slot < slots {
-        lacks[slot] = choosers;
-        slot += 1;
-    }
-}
-
 // Takes a settled choice's maximum from what its one place lacks, if that is one of the slots.
 fn bring(slots: usize, most: u16, domain: u64, lacks: &mut [usize; 24])
     requires { slots ≤ 24 }
@@ -63,7 +47,7 @@ fn bring(slots: usize, most: u16, domain: u64, lacks: &mut [usize; 24])
     if slots <= slot {
         return;
     }
-    lacks[slot] = less(lacks[slot], wide_word(most));
+    lacks[slot] = lacks[slot].saturating_sub(usize::from(most));
 }
 
 // What each slot lacks: all choosers, less what each settled choice brings to one slot.
@@ -78,12 +62,10 @@ fn each_lack(
     ensures { let given = domains.now in
         result ≡ lacks_of slots choices choosers maxs.now (free_of choices given) given }
 {
-    let mut lacks = figures();
-    lack_all(slots, choosers, &mut lacks);
-    let mut choice = 0;
-    while choice < choices {
+    let mut lacks = [0usize; 24];
+    lacks[..slots].fill(choosers);
+    for choice in 0..choices {
         bring(slots, maxs[choice], domains[choice], &mut lacks);
-        choice += 1;
     }
     lacks
 }
@@ -103,13 +85,13 @@ pub fn lacks_of(counts: Counts, maxs: &[u16], domains: &[u64; 64]) -> [usize; 24
     ensures { result ≡ lacks_in counts maxs.now domains.now }
 {
     if 64 < counts.choices {
-        return figures();
+        return [0usize; 24];
     }
     if maxs.len() != counts.choices {
-        return figures();
+        return [0usize; 24];
     }
     if 24 < counts.slots {
-        return figures();
+        return [0usize; 24];
     }
     each_lack(counts.slots, counts.choices, counts.choosers, maxs, domains)
 }

@@ -10,7 +10,6 @@ ghost use Rattle.list_rule_tables.specs.steps.Heaviest.{heaviest_of};
 
 use super::figures::first_in;
 use base_choice_sets::set::{member, with_if};
-use base_pools::number::{larger, less, wide_word};
 use day_rows::check::Counts;
 use list_tables::entry::least_at;
 use list_tables::lightest_entry::lightest_at;
@@ -31,10 +30,7 @@ fn slot_needs(tables: &[u16; TABLES], table: usize, from: usize, lack: usize, wa
         let light = lightest_at tables.now in
         (result ≡ max (entry table from lack) (light table from want)) × (result ≤ 65535) }
 {
-    larger(
-        least_at(tables, table, from, lack),
-        lightest_at(tables, table, from, want),
-    )
+    least_at(tables, table, from, lack).max(lightest_at(tables, table, from, want))
 }
 
 // What the slots need together.
@@ -53,10 +49,8 @@ fn need_of(
         × (result ≤ 1572840) }
 {
     let mut need = 0;
-    let mut slot = 0;
-    while slot < slots {
+    for slot in 0..slots {
         need += slot_needs(tables, table, from, lacks[slot], wants[slot]);
-        slot += 1;
     }
     need
 }
@@ -87,12 +81,10 @@ fn weigh_free(
 {
     let mut spare = 0;
     let mut heaviest = 0;
-    let mut choice = from;
-    while choice < choices {
+    for choice in from..choices {
         let weight = free_weight(member(free, choice), tables, table, choice);
         spare += weight;
-        heaviest = larger(heaviest, weight);
-        choice += 1;
+        heaviest = heaviest.max(weight);
     }
     Weighed { spare, heaviest }
 }
@@ -124,45 +116,18 @@ fn slot_stays(
     }
     let lack = lacks[slot];
     let want = wants[slot];
-    let rest = slot_needs(tables, table, from, less(lack, most), less(want, 1));
+    let rest = slot_needs(
+        tables,
+        table,
+        from,
+        lack.saturating_sub(most),
+        want.saturating_sub(1),
+    );
     let whole = slot_needs(tables, table, from, lack, want);
     weight + rest + need <= spare + whole
 }
 
-// The slots of a free choice's domain that stay.
-fn kept_slots(
-    slots: usize,
-    table: usize,
-    from: usize,
-    lacks: &[usize; 24],
-    wants: &[usize; 24],
-    tables: &[u16; TABLES],
-    weight: usize,
-    most: usize,
-    need: usize,
-    spare: usize,
-    domain: u64,
-) -> u64
-    requires { (slots ≤ 24) × ((weight ≤ 65535) × ((need ≤ 1572840) × (spare ≤ 4194240))) }
-    ensures { let entry = entry_at tables.now in
-        let light = lightest_at tables.now in
-        let lack = lacks.now in
-        let want = wants.now in
-        result ≡ set_of slots (slot_stays entry light table from lack want weight most need spare domain) }
-{
-    let mut kept = 0;
-    let mut slot = 0;
-    while slot < slots {
-        let stays = slot_stays(
-            table, from, lacks, wants, tables, weight, most, need, spare, domain, slot,
-        );
-        kept = with_if(kept, slot, stays);
-        slot += 1;
-    }
-    kept
-}
-
-// What one table's rule leaves of a free choice's domain.
+// What one table's rule leaves of a free choice's domain: all of it, nothing, or the slots that stay.
 fn left_of(
     slots: usize,
     table: usize,
@@ -189,9 +154,14 @@ fn left_of(
     if spare < need {
         return 0;
     }
-    kept_slots(
-        slots, table, from, lacks, wants, tables, weight, most, need, spare, domain,
-    )
+    let mut kept = 0;
+    for slot in 0..slots {
+        let stays = slot_stays(
+            table, from, lacks, wants, tables, weight, most, need, spare, domain, slot,
+        );
+        kept = with_if(kept, slot, stays);
+    }
+    kept
 }
 
 // One table's rule for one choice: a choice that isn't free keeps its domain.
@@ -230,7 +200,7 @@ fn next_domain(
         wants,
         tables,
         weight,
-        wide_word(most),
+        usize::from(most),
         need,
         spare,
         domain,
@@ -251,8 +221,7 @@ fn narrow_once(
     domains: &mut [u64; 64],
 )
     requires { ((counts.choices ≤ 64) × (counts.slots ≤ 24))
-        × ((length maxs.now ≡ counts.choices)
-        × ((length domains.old ≡ 64) × (from ≡ first_in counts.choices free))) }
+        × ((length maxs.now ≡ counts.choices) × (from ≡ first_in counts.choices free)) }
     ensures { let entry = entry_at tables.now in
         let light = lightest_at tables.now in
         let weight = weight_at tables.now in
@@ -267,8 +236,7 @@ fn narrow_once(
     if need + weighed.heaviest <= spare {
         return;
     }
-    let mut choice = from;
-    while choice < counts.choices {
+    for choice in from..counts.choices {
         let inside = member(free, choice);
         let most = maxs[choice];
         let domain = domains[choice];
@@ -286,7 +254,6 @@ fn narrow_once(
             most,
             domain,
         );
-        choice += 1;
     }
 }
 
@@ -302,8 +269,7 @@ fn narrow_each(
     domains: &mut [u64; 64],
 )
     requires { ((counts.choices ≤ 64) × (counts.slots ≤ 24))
-        × ((length maxs.now ≡ counts.choices)
-        × ((length domains.old ≡ 64) × (from ≡ first_in counts.choices free))) }
+        × ((length maxs.now ≡ counts.choices) × (from ≡ first_in counts.choices free)) }
     ensures { let entry = entry_at tables.now in
         let light = lightest_at tables.now in
         let weight = weight_at tables.now in
@@ -313,17 +279,12 @@ fn narrow_each(
         let given = domains.old in
         domains.new ≡ tables_below entry light weight counts most free from lack want 4 given }
 {
-    let mut table = 0;
-    while table < 4 {
+    for table in 0..4 {
         narrow_once(
             counts, maxs, tables, table, free, from, lacks, wants, domains,
         );
-        table += 1;
     }
 }
-
-// Lending the array as a slice tells a proof how long it is.
-fn length_known(domains: &[u64]) {}
 
 // Narrows the domains by the weight tables, given which choices are free and what each slot lacks and wants;
 // of a day that the tables don't hold they stay as they are.
@@ -357,7 +318,6 @@ pub fn narrow_by_tables(
     if 24 < counts.slots {
         return;
     }
-    length_known(domains);
     let from = first_in(counts.choices, free);
     narrow_each(counts, maxs, tables, free, from, lacks, wants, domains);
 }

@@ -1,5 +1,5 @@
--- When a limit's pass over the domains can be spared, and what is known of the domains then.
-use Rattle.std.specs.Prelude.{Bool, ◌&&◌, List, ℕ, ◌+◌, ◌-◌, ◌^◌, ◌<◌, get_or}
+-- When a limit's pass over the domains can be spared.
+use Rattle.std.specs.Prelude.{Bool, ◌&&◌, ℕ, ◌+◌, ◌-◌}
 use Rattle.day_rows.specs.declared.row.Row.{Row}
 use Rattle.list_rule_slots.specs.steps.SlotRules.{op_can}
 
@@ -10,7 +10,3 @@ limit_idle row must may =
     op_can row.extra (must + 1) may row.right && op_can row.extra must (may - 1) row.right
     && op_can row.extra must may row.right && op_can row.extra (must + 1) (may + 1) row.right
     && op_can row.extra (must - 1) (may - 1) row.right
-
--- each of the first so many domains has places up to 63 alone
-unfoldable pub InWords : ℕ → List ℕ → Type 0
-InWords n domains = (choice : ℕ) → choice < n → get_or domains choice 0 < 2 ^ 64

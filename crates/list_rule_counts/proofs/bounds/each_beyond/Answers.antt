@@ -1,5 +1,4 @@
-use mathlib.Core.Path.{◌≡◌}
-use Prim.Native.Nat.{◌-◌}
+use mathlib.Core.Path.{refl, ◌≡◌}
 use native.Mathlib.Omega.{arith}
 use Rattle.list_tables.specs.steps.Tables.{written}
 use Rattle.list_rule_counts.proofs.StepLaws.{written_step}
@@ -9,12 +8,12 @@ use Rattle.list_rule_counts.proofs.bounds.each_beyond.Goals as goal
 pub loop-slot-init : goal.loop-slot-init
 unfolding written
 loop-slot-init c =
-    (omega arith, c.figures-left.ensures)
+    refl
 
 pub loop-slot-preserved : goal.loop-slot-preserved
 loop-slot-preserved c =
-    (omega (arith, c.loop-slot-test.true), written_step _ _ _ _ _ c.loop-slot.invariant.1 (beyond-in _ _ _ _ c.beyond.ensures))
+    written_step _ _ _ _ _ c.loop-slot.invariant (beyond-in _ _ _ _ c.saturating_sub.ensures)
 
 pub returns : goal.returns
 returns c =
-    let e : c.loop-slot.slot ≡ c.args.slots = omega (arith, c.loop-slot-test.false, c.loop-slot.invariant.0) in rw e at c.loop-slot.invariant.1
+    let e : c.loop-slot.slot ≡ c.args.slots = omega (arith, c.loop-slot-test.false, c.loop-slot.auto.slot-end) in rw e at c.loop-slot.invariant

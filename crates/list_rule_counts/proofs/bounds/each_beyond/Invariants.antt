@@ -1,6 +1,5 @@
 -- The loop's invariant: what of the figures of the slots passed is left to the free choices.
 use mathlib.Core.Path.{◌≡◌}
-use Prim.Native.Nat.{◌-◌, ◌≤◌}
 use lib.ListN.{replicate}
 use Rattle.list_tables.specs.steps.Tables.{written}
 use Rattle.list_rule_counts.specs.steps.Figures.{beyond_in}
@@ -8,8 +7,4 @@ use Rattle.list_rule_counts.proofs.bounds.each_beyond.Given as goal
 
 abbrev pub invariant-loop-slot : goal.invariant-loop-slot
 invariant-loop-slot l =
-    (l.slot ≤ l.slots) × (l.left ≡ written l.slot 0 (beyond_in l.figures l.settled) (replicate 24 0))
-
-abbrev pub decreases-loop-slot : goal.decreases-loop-slot
-decreases-loop-slot l =
-    l.slots - l.slot
+    l.left ≡ written l.slot 0 (beyond_in l.figures l.settled) (replicate 24 0)

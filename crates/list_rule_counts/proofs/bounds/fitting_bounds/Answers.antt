@@ -1,4 +1,5 @@
 -- The counts of the two arrays give the bounds.
+use mathlib.Core.Path.{refl}
 use Rattle.list_rule_counts.proofs.BoundLaws.{broken-is, wants_are, rooms_are}
 use Rattle.list_rule_counts.proofs.bounds.fitting_bounds.Goals as goal
 
@@ -6,7 +7,7 @@ pub returns : goal.returns
 returns c =
     let p = c.requires in
     let s = c.settled_counts-settled.ensures.0 in
-    let n = c.no_ends-under.ensures in
+    let n = refl in
     let u = c.limit_by_rows.ensures.under_after in
     let f = c.least_counts-least.ensures in
     let l = c.limit_by_rows.ensures.least_after in

@@ -1,20 +1,12 @@
-use Prim.Native.Nat.{◌-◌}
-use Rattle.list_rule_counts.proofs.LimitLaws.{limit-start, limit-here, limit-on, limit-none}
-use borrow.Author.Rules.{rules}
+-- Some row passes the test, by std's word and by the rules'.
+use Rattle.std.proofs.Common.{◌∙◌, eqb, rules, tests}
+use Rattle.std.proofs.lemmas.Iterator.{YieldsList-from_slice}
+use Rattle.std.proofs.lemmas.Iterator.Search.{any_from_yields_List}
+use Rattle.day_rows.specs.Row.{row_of}
+use Rattle.list_rule_counts.proofs.LimitLaws.{some-limit}
 use Rattle.list_rule_counts.proofs.bounds.has_limit.Goals as goal
-
-pub loop-i-init : goal.loop-i-init
-loop-i-init c =
-    (search rules, limit-start _)
-
-pub returns-then-kind_of-eq-SLOT_HAS_LIMITED_SIZE : goal.returns-then-kind_of-eq-SLOT_HAS_LIMITED_SIZE
-returns-then-kind_of-eq-SLOT_HAS_LIMITED_SIZE c =
-    limit-here _ _ c.loop-i.invariant.1 _ c.loop-i-test.true c.kind_of.ensures c.if-kind_of-eq-SLOT_HAS_LIMITED_SIZE.true
-
-pub loop-i-preserved : goal.loop-i-preserved
-loop-i-preserved c =
-    (search rules, limit-on _ _ c.loop-i.invariant.1 _ c.loop-i-test.true c.kind_of.ensures c.if-kind_of-eq-SLOT_HAS_LIMITED_SIZE.false)
 
 pub returns : goal.returns
 returns c =
-    limit-none _ _ c.loop-i.invariant.1 c.loop-i-test.false
+    any_from_yields_List (λ number. eqb (row_of number).kind 6) _ _ c.any.result c.any.ensures.ran (YieldsList-from_slice c.args.rows.now cc) (λ x b q k. search (rules, tests))
+    ∙ some-limit _

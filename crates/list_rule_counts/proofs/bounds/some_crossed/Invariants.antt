@@ -1,7 +1,6 @@
 -- The loop's invariant: of the slots passed each least count is one that the slot can have.
 use mathlib.Core.Path.{◌≡◌}
 use mathlib.Core.Bool.{true}
-use Prim.Native.Nat.{◌-◌, ◌≤◌}
 use lib.Dec.{ltb}
 use lib.ListN.{get_or}
 use Rattle.base_lists.specs.Below.{all_below}
@@ -9,8 +8,4 @@ use Rattle.list_rule_counts.proofs.bounds.some_crossed.Given as goal
 
 abbrev pub invariant-loop-slot : goal.invariant-loop-slot
 invariant-loop-slot l =
-    (l.slot ≤ l.slots) × (all_below l.slot (λ s. ltb (get_or l.least s 0) (get_or l.under s 0)) ≡ true)
-
-abbrev pub decreases-loop-slot : goal.decreases-loop-slot
-decreases-loop-slot l =
-    l.slots - l.slot
+    all_below l.slot (λ s. ltb (get_or l.least s 0) (get_or l.under s 0)) ≡ true

@@ -1,6 +1,5 @@
 -- The loop's invariant: the counts of the slots passed.
 use mathlib.Core.Path.{◌≡◌}
-use Prim.Native.Nat.{◌-◌, ◌≤◌}
 use lib.ListN.{replicate}
 use Rattle.list_tables.specs.steps.Tables.{entry_at, written}
 use Rattle.list_rule_counts.specs.steps.Figures.{fewest_in}
@@ -8,8 +7,4 @@ use Rattle.list_rule_counts.proofs.counts.least_counts.Given as goal
 
 abbrev pub invariant-loop-slot : goal.invariant-loop-slot
 invariant-loop-slot l =
-    (l.slot ≤ l.slots) × (l.least ≡ written l.slot 0 (fewest_in (entry_at l.tables) l.from l.lacks l.settled) (replicate 24 0))
-
-abbrev pub decreases-loop-slot : goal.decreases-loop-slot
-decreases-loop-slot l =
-    l.slots - l.slot
+    l.least ≡ written l.slot 0 (fewest_in (entry_at l.tables) l.from l.lacks l.settled) (replicate 24 0)

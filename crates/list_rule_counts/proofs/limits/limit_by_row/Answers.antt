@@ -14,5 +14,5 @@ returns-then-slot-ge24 c =
 pub returns : goal.returns
 returns c =
     let p = c.kind_of.ensures in let q = c.if-kind_of-ne-SLOT_HAS_LIMITED_SIZE.false in let s = c.left_of-slot.ensures in let h = c.if-slot-ge24.false in
-    let w = c.right_of.ensures in let l = c.wide_word-limit.ensures.0 in let o = c.extra_of-op.ensures in
+    let w = c.right_of.ensures in let l = c.from-limit.ensures in let o = c.extra_of-op.ensures in
     record { least_after = row_changes _ _ _ _ _ _ _ _ _ p q s h w l o c.raised.ensures; under_after = row_changes _ _ _ _ _ _ _ _ _ p q s h w l o c.lowered.ensures }

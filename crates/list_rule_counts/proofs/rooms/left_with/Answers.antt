@@ -9,8 +9,8 @@ returns-then-not-free c =
 
 pub returns-then-not-is_full : goal.returns-then-not-is_full
 returns-then-not-is_full c =
-    left-room (entry_at _) _ _ _ _ _ _ _ _ _ _ _ (c.if-not-free.false) c.wide_word.ensures.0 c.less.ensures c.least_at-others.ensures.0 c.is_full.ensures (c.if-not-is_full.true)
+    left-room (entry_at _) _ _ _ _ _ _ _ _ _ _ _ (c.if-not-free.false) c.from.ensures c.saturating_sub.ensures c.least_at-others.ensures.0 c.is_full.ensures (c.if-not-is_full.true)
 
 pub returns : goal.returns
 returns c =
-    left-full (entry_at _) _ _ _ _ _ _ _ _ _ _ _ (c.if-not-free.false) c.wide_word.ensures.0 c.less.ensures c.least_at-others.ensures.0 c.is_full.ensures _ (c.if-not-is_full.false) c.kept.ensures
+    left-full (entry_at _) _ _ _ _ _ _ _ _ _ _ _ (c.if-not-free.false) c.from.ensures c.saturating_sub.ensures c.least_at-others.ensures.0 c.is_full.ensures _ (c.if-not-is_full.false) c.kept.ensures

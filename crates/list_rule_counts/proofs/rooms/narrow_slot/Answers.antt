@@ -1,5 +1,4 @@
 use mathlib.Core.Path.{refl}
-use Prim.Native.Nat.{◌-◌}
 use native.Mathlib.Omega.{arith}
 use Rattle.list_tables.specs.steps.Tables.{entry_at}
 use Rattle.list_rule_tables.proofs.FigureLaws.{first-within}
@@ -12,12 +11,12 @@ returns-then-room-gt64 c =
 
 pub loop-choice-init : goal.loop-choice-init
 loop-choice-init c =
-    let e = c.requires.1.1.1 in (first-within _ _ _ e, slot-start _ _ _ _ _ _ _ _ _ e)
+    let e = c.requires.1.1.1 in slot-start _ _ _ _ _ _ _ _ _ e
 
 pub loop-choice-preserved : goal.loop-choice-preserved
 loop-choice-preserved c =
-    (omega (arith, c.loop-choice-test.true), slot_step (entry_at _) _ _ _ _ _ _ _ _ _ _ _ _ _ _ refl refl refl c.loop-choice.invariant.1 c.member.ensures c.left_with.ensures)
+    slot_step (entry_at _) _ _ _ _ _ _ _ _ _ _ _ _ _ _ refl refl refl c.loop-choice.invariant c.member.ensures c.left_with.ensures
 
 pub returns : goal.returns
 returns c =
-    slot-end _ _ _ _ _ _ _ _ _ _ _ _ refl c.if-room-gt64.false (omega (arith, c.loop-choice-test.false, c.loop-choice.invariant.0)) c.loop-choice.invariant.1
+    slot-end _ _ _ _ _ _ _ _ _ _ _ _ refl c.if-room-gt64.false (omega (arith, c.loop-choice-test.false, first-within _ _ _ c.requires.1.1.1, c.loop-choice.auto)) c.loop-choice.invariant

@@ -1,6 +1,5 @@
 -- The loop's invariant: the domains of the choices passed are what the slot's room leaves of them.
 use mathlib.Core.Path.{◌≡◌}
-use Prim.Native.Nat.{◌-◌, ◌≤◌}
 use Rattle.list_tables.specs.steps.Tables.{entry_at}
 use Rattle.list_domains.specs.steps.Domains.{each_below}
 use Rattle.list_rule_counts.specs.steps.CountRule.{room_rule}
@@ -8,8 +7,4 @@ use Rattle.list_rule_counts.proofs.rooms.narrow_slot.Given as goal
 
 abbrev pub invariant-loop-choice : goal.invariant-loop-choice
 invariant-loop-choice l =
-    (l.choice ≤ l.choices) × (l.domains ≡ each_below l.choice (room_rule (entry_at l.tables) l.maxs l.free l.from l.lacks l.rooms l.slot) l.initial.domains)
-
-abbrev pub decreases-loop-choice : goal.decreases-loop-choice
-decreases-loop-choice l =
-    l.choices - l.choice
+    l.domains ≡ each_below l.choice (room_rule (entry_at l.tables) l.maxs l.free l.from l.lacks l.rooms l.slot) l.initial.domains

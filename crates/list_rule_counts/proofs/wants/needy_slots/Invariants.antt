@@ -1,6 +1,5 @@
 -- The loop's invariant: the slots passed that want some.
 use mathlib.Core.Path.{◌≡◌}
-use Prim.Native.Nat.{◌-◌, ◌≤◌}
 use lib.Dec.{ltb}
 use lib.ListN.{get_or}
 use Rattle.base_choice_sets.specs.Sets.{set_of}
@@ -8,8 +7,4 @@ use Rattle.list_rule_counts.proofs.wants.needy_slots.Given as goal
 
 abbrev pub invariant-loop-slot : goal.invariant-loop-slot
 invariant-loop-slot l =
-    (l.slot ≤ l.slots) × (l.set ≡ set_of l.slot (λ s. ltb 0 (get_or l.wants s 0)))
-
-abbrev pub decreases-loop-slot : goal.decreases-loop-slot
-decreases-loop-slot l =
-    l.slots - l.slot
+    l.set ≡ set_of l.slot (λ s. ltb 0 (get_or l.wants s 0))

@@ -1,13 +1,8 @@
 use mathlib.Core.Path.{◌≡◌}
-use Prim.Native.Nat.{◌-◌}
 use native.Mathlib.Omega.{arith}
 use borrow.Author.Rules.{rules}
 use Rattle.list_rule_slots.proofs.StepLaws.{must_le, may_le, each_none, each_more, limit-done, limit_spared}
 use Rattle.list_rule_slots.proofs.limits.narrow_each.Goals as goal
-
-pub slot_counts-slot_counts-requires : goal.slot_counts-slot_counts-requires
-slot_counts-slot_counts-requires c =
-    c.requires.0
 
 pub is_slack-requires : goal.is_slack-requires
 is_slack-requires c =
@@ -18,15 +13,11 @@ pub returns-then-is_slack : goal.returns-then-is_slack
 returns-then-is_slack c =
     let p = c.requires in
     let s = c.slot_counts-slot_counts.ensures in
-    limit_spared _ _ _ _ _ _ p.0 p.1 p.2 s.0 s.1 s.2 c.is_slack.ensures c.if-is_slack.true
+    limit_spared _ _ _ _ _ _ p.0 p.1 p.2 s.0 s.1 c.fits-domains c.is_slack.ensures c.if-is_slack.true
 
 pub loop-choice-init : goal.loop-choice-init
 loop-choice-init c =
-    (search rules, each_none _ _)
-
-pub bounds-domains-choice : goal.bounds-domains-choice
-bounds-domains-choice c =
-    omega (arith, c.loop-choice.invariant.0)
+    each_none _ _
 
 pub limit_leaves-requires : goal.limit_leaves-requires
 limit_leaves-requires c =
@@ -35,11 +26,11 @@ limit_leaves-requires c =
 
 pub loop-choice-preserved : goal.loop-choice-preserved
 loop-choice-preserved c =
-    (search rules, each_more _ _ _ _ _ c.loop-choice.invariant.1 c.limit_leaves.ensures)
+    each_more _ _ _ _ _ c.loop-choice.invariant c.limit_leaves.ensures
 
 pub returns : goal.returns
 returns c =
     let p = c.requires in
     let s = c.slot_counts-slot_counts.ensures in
     let e : c.loop-choice.choice ≡ c.args.counts.choices = search rules in
-    limit-done _ _ _ _ _ _ p.0 p.1 p.2 s.0 s.1 (rw e at c.loop-choice.invariant.1)
+    limit-done _ _ _ _ _ _ p.0 p.1 p.2 s.0 s.1 (rw e at c.loop-choice.invariant)

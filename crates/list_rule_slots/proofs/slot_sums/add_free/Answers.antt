@@ -1,6 +1,4 @@
 use mathlib.Core.Path.{◌≡◌}
-use mathlib.Core.Bool.{true}
-use Prim.Native.Nat.{◌-◌}
 use native.Mathlib.Omega.{arith}
 use Rattle.list_rule_slots.proofs.SumLaws.{free-start, free_more, free-small}
 use Rattle.list_rule_slots.proofs.slot_sums.add_free.Goals as goal

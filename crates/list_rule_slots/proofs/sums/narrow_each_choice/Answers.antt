@@ -1,5 +1,4 @@
 use mathlib.Core.Path.{◌≡◌}
-use Prim.Native.Nat.{◌-◌}
 use borrow.Author.Rules.{rules}
 use Rattle.list_rule_slots.proofs.StepLaws.{each_none}
 use Rattle.list_rule_slots.proofs.SumLaws.{left-more, left-done}
@@ -11,7 +10,7 @@ in_order-ordered-requires c =
 
 pub loop-choice-init : goal.loop-choice-init
 loop-choice-init c =
-    (search rules, each_none _ _)
+    each_none _ _
 
 pub sums_leave-requires : goal.sums_leave-requires
 sums_leave-requires c =
@@ -20,9 +19,9 @@ sums_leave-requires c =
 pub loop-choice-preserved : goal.loop-choice-preserved
 loop-choice-preserved c =
     let a = c.args in
-    (search rules, left-more _ _ _ a.mins.now a.maxs.now a.domains.now _ _ _ _ _ c.loop-choice.invariant.1 c.wide_word.ensures.0 c.wide_word-in-loop-choice.ensures.0 c.sums_leave.ensures)
+    left-more _ _ _ a.mins.now a.maxs.now a.domains.now _ _ _ _ _ c.loop-choice.invariant c.from.ensures c.from-in-loop-choice.ensures c.sums_leave.ensures
 
 pub returns : goal.returns
 returns c =
     let e : c.loop-choice.choice ≡ c.args.counts.choices = search rules in
-    left-done _ _ _ _ _ _ _ _ e c.loop-choice.invariant.1
+    left-done _ _ _ _ _ _ _ _ e c.loop-choice.invariant

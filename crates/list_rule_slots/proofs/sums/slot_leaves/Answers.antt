@@ -6,4 +6,4 @@ use Rattle.list_rule_slots.proofs.sums.slot_leaves.Goals as goal
 
 pub returns : goal.returns
 returns c =
-    c.kept.ensures ∙ ap₂ (λ (a b : Bool). kept_places c.args.left c.args.slot a b) c.minimum_fits-stands.ensures c.maximum_spared-leaves.ensures
+    c.kept.ensures ∙ ap₂ (λ (a b : Bool). kept_places c.args.left c.args.slot a b) c.sum_fits-stands.ensures c.sum_fits-leaves.ensures

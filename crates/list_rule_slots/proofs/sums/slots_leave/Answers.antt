@@ -1,7 +1,5 @@
 use borrow.Author.Rules.{rules}
 use mathlib.Core.Path.{◌≡◌}
-use mathlib.Core.Bool.{true}
-use Prim.Native.Nat.{◌-◌}
 use native.Mathlib.Omega.{arith}
 use Rattle.list_rule_slots.proofs.SumLaws.{leave_start, leave_next}
 use Rattle.list_rule_slots.proofs.sums.slots_leave.Goals as goal

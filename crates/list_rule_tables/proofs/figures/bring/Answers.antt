@@ -9,4 +9,4 @@ pub returns-then-slots-slot : goal.returns-then-slots-slot
 returns-then-slots-slot c = changed_past _ _ _ _ _ c.is_settled.ensures _ (c.if-not-is_settled.false) c.lowest_place-slot.ensures c.if-slots-slot.true
 
 pub returns : goal.returns
-returns c = changed_in _ _ _ _ _ c.is_settled.ensures _ (c.if-not-is_settled.false) c.lowest_place-slot.ensures _ c.if-slots-slot.false (lack-left _ _ _ _ c.less.ensures c.wide_word.ensures.0)
+returns c = changed_in _ _ _ _ _ c.is_settled.ensures _ (c.if-not-is_settled.false) c.lowest_place-slot.ensures _ c.if-slots-slot.false (lack-left _ _ _ _ c.saturating_sub.ensures c.from.ensures)

@@ -1,15 +1,21 @@
-use Rattle.list_rule_tables.proofs.SettledLaws.{lacks-start, lacks-step, lacks-end}
-use Prim.Native.Nat.{◌-◌}
+use mathlib.Core.Path.{◌≡◌, refl, ◌∙◌, ap}
+use mathlib.Core.List.{List, ◌++◌}
+use Prim.Native.Nat.{ℕ}
+use lib.ListN.{drop, replicate}
+use borrow.Author.Rules.{rules}
+use Rattle.list_rule_tables.proofs.SettledLaws.{lacks-filled, lacks-start, lacks-step, lacks-end}
 use native.Mathlib.Omega.{arith}
 use Rattle.list_rule_tables.proofs.figures.each_lack.Goals as goal
 
 pub loop-choice-init : goal.loop-choice-init
-loop-choice-init c = (omega arith, lacks-start _ _ _ _ _ c.requires.0 _ _ c.figures-lacks.ensures c.lack_all.ensures)
+loop-choice-init c =
+    let f : c.fill.new.self ≡ replicate c.args.slots c.args.choosers = search rules in
+    lacks-start _ _ _ _ _ c.requires.0 _ _ refl (ap (λ (l : List ℕ). l ++ drop c.args.slots (replicate 24 0)) f ∙ lacks-filled c.args.choosers c.args.slots (replicate 24 0) (omega (arith, c.requires.0)))
 
 pub loop-choice-preserved : goal.loop-choice-preserved
 loop-choice-preserved c =
-    (omega (arith, c.loop-choice-test.true), lacks-step _ _ _ _ _ c.requires.0 _ _ _ c.loop-choice-test.true c.loop-choice.invariant.1 c.bring.ensures)
+    lacks-step _ _ _ _ _ c.requires.0 _ _ _ c.loop-choice-test.true c.loop-choice.invariant c.bring.ensures
 
 pub returns : goal.returns
 returns c =
-    lacks-end _ _ _ _ _ c.requires.0 _ _ (omega (arith, c.loop-choice-test.false, c.loop-choice.invariant.0)) c.loop-choice.invariant.1
+    lacks-end _ _ _ _ _ c.requires.0 _ _ (omega (arith, c.loop-choice-test.false, c.loop-choice.auto.choice-end)) c.loop-choice.invariant

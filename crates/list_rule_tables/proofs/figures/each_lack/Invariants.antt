@@ -2,14 +2,9 @@
 use Rattle.list_tables.specs.steps.Tables.{written}
 use Rattle.list_rule_tables.specs.steps.Figures.{free_of, lack_of}
 use mathlib.Core.Path.{◌≡◌}
-use Prim.Native.Nat.{◌-◌, ◌≤◌}
 use lib.ListN.{replicate}
 use Rattle.list_rule_tables.proofs.figures.each_lack.Given as goal
 
 abbrev pub invariant-loop-choice : goal.invariant-loop-choice
 invariant-loop-choice l =
-    (l.choice ≤ l.choices) × (l.lacks ≡ written l.slots 0 (lack_of l.choice l.choosers l.maxs (free_of l.choices l.domains) l.domains) (replicate 24 0))
-
-abbrev pub decreases-loop-choice : goal.decreases-loop-choice
-decreases-loop-choice l =
-    l.choices - l.choice
+    l.lacks ≡ written l.slots 0 (lack_of l.choice l.choosers l.maxs (free_of l.choices l.domains) l.domains) (replicate 24 0)

@@ -1,7 +1,5 @@
 use mathlib.Core.Path.{◌≡◌}
-use Prim.Native.Nat.{◌-◌}
 use native.Mathlib.Omega.{arith}
-use lib.ListN.{length-set}
 use Rattle.list_rule_tables.proofs.FigureLaws.{first-within}
 use Rattle.list_rule_tables.proofs.RuleLaws.{once-start, once-step, once_spared}
 use Rattle.list_rule_tables.proofs.rule.narrow_once.Goals as goal
@@ -12,7 +10,7 @@ need_of-need-requires c =
 
 pub weigh_free-weighed-requires : goal.weigh_free-weighed-requires
 weigh_free-weighed-requires c =
-    (c.requires.0.0, c.requires.1.1.1)
+    (c.requires.0.0, c.requires.1.1)
 
 pub overflow_add-need : goal.overflow_add-need
 overflow_add-need c =
@@ -24,7 +22,7 @@ returns-then-need-weighed c =
 
 pub loop-choice-init : goal.loop-choice-init
 loop-choice-init c =
-    ((first-within _ _ _ c.requires.1.1.1, c.requires.1.1.0), once-start _ _ _ _ _ _ _ _ _ _ _ c.requires.1.1.1)
+    once-start _ _ _ _ _ _ _ _ _ _ _ c.requires.1.1
 
 pub next_domain-requires : goal.next_domain-requires
 next_domain-requires c =
@@ -32,8 +30,8 @@ next_domain-requires c =
 
 pub loop-choice-preserved : goal.loop-choice-preserved
 loop-choice-preserved c =
-    ((omega (arith, c.loop-choice-test.true), simp length-set c.loop-choice.invariant.0.1), once-step _ _ _ _ _ _ _ _ _ _ _ _ _ _ _ _ _ c.loop-choice.invariant.1 (omega (arith, c.loop-choice-test.true, c.requires)) c.need_of-need.ensures.0 c.weigh_free-weighed.ensures.fact.0 c.member-inside.ensures c.next_domain.ensures)
+    once-step _ _ _ _ _ _ _ _ _ _ _ _ _ _ _ _ _ c.loop-choice.invariant (omega (arith, c.loop-choice-test.true, c.requires)) c.need_of-need.ensures.0 c.weigh_free-weighed.ensures.fact.0 c.member-inside.ensures c.next_domain.ensures
 
 pub returns : goal.returns
 returns c =
-    let e : c.loop-choice.choice ≡ c.args.counts.choices = omega (arith, c.loop-choice-test.false, c.loop-choice.invariant.0.0) in rw e at c.loop-choice.invariant.1
+    let e : c.loop-choice.choice ≡ c.args.counts.choices = omega (arith, c.loop-choice-test.false, first-within _ _ _ c.requires.1.1, c.loop-choice.auto) in rw e at c.loop-choice.invariant

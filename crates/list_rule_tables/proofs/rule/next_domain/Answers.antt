@@ -15,4 +15,4 @@ left_of-requires c =
 
 pub returns : goal.returns
 returns c =
-    next-left _ _ c.args.free _ _ _ _ _ _ _ _ _ _ _ _ _ (c.if-not-free.false) c.weight_at-weight.ensures.0 c.wide_word.ensures.0 c.left_of.ensures
+    next-left _ _ c.args.free _ _ _ _ _ _ _ _ _ _ _ _ _ (c.if-not-free.false) c.weight_at-weight.ensures.0 c.from.ensures c.left_of.ensures

@@ -9,4 +9,4 @@ returns-then-not-member c =
 
 pub returns : goal.returns
 returns c =
-    slot-asked _ _ _ _ _ _ _ _ _ _ _ _ _ _ _ _ (sym c.member.ensures ∙ c.if-not-member.false) c.less.ensures c.less-2.ensures c.slot_needs-rest.ensures.0 c.slot_needs-whole.ensures.0
+    slot-asked _ _ _ _ _ _ _ _ _ _ _ _ _ _ _ _ (sym c.member.ensures ∙ c.if-not-member.false) c.saturating_sub.ensures c.saturating_sub-2.ensures c.slot_needs-rest.ensures.0 c.slot_needs-whole.ensures.0

@@ -1,5 +1,6 @@
 use mathlib.Core.Path.{◌≡◌}
-use Prim.Native.Nat.{◌-◌}
+use borrow.Author.Rules.{rules}
+use Prim.Native.Nat.{max}
 use native.Mathlib.Omega.{arith}
 use Rattle.list_rule_tables.proofs.FigureLaws.{first-within}
 use Rattle.list_rule_tables.proofs.RuleLaws.{spare-start, spare-step, heaviest_start, heaviest_step}
@@ -7,16 +8,17 @@ use Rattle.list_rule_tables.proofs.rule.weigh_free.Goals as goal
 
 pub loop-choice-init : goal.loop-choice-init
 loop-choice-init c =
-    ((first-within _ _ _ c.requires.1, (omega arith, omega arith)), (spare-start _ _ _ _ _ c.requires.1, heaviest_start _ _ _ _ _ c.requires.1))
+    ((omega arith, omega arith), (spare-start _ _ _ _ _ c.requires.1, heaviest_start _ _ _ _ _ c.requires.1))
 
 pub overflow_add-spare : goal.overflow_add-spare
 overflow_add-spare c =
-    omega (arith, c.loop-choice.invariant.0.1.0, c.free_weight-weight.ensures.1, c.loop-choice-test.true, c.requires.0)
+    omega (arith, c.loop-choice.invariant.0.0, c.free_weight-weight.ensures.1, c.loop-choice-test.true, c.requires.0)
 
 pub loop-choice-preserved : goal.loop-choice-preserved
 loop-choice-preserved c =
-    ((omega (arith, c.loop-choice-test.true), (omega (arith, c.loop-choice.invariant.0.1.0, c.free_weight-weight.ensures.1), omega (arith, c.loop-choice.invariant.0.1.1, c.free_weight-weight.ensures.1, c.larger-heaviest.ensures))), (spare-step _ _ _ _ _ _ _ c.loop-choice.invariant.1.0 c.member.ensures c.free_weight-weight.ensures.0, heaviest_step _ _ _ _ _ _ _ _ c.loop-choice.invariant.1.1 c.member.ensures c.free_weight-weight.ensures.0 c.larger-heaviest.ensures))
+    let m : c.max-heaviest.result ≡ max c.loop-choice.heaviest c.free_weight-weight.result = search rules in
+    ((omega (arith, c.loop-choice.invariant.0.0, c.free_weight-weight.ensures.1), omega (arith, c.loop-choice.invariant.0.1, c.free_weight-weight.ensures.1, m)), (spare-step _ _ _ _ _ _ _ c.loop-choice.invariant.1.0 c.member.ensures c.free_weight-weight.ensures.0, heaviest_step _ _ _ _ _ _ _ _ c.loop-choice.invariant.1.1 c.member.ensures c.free_weight-weight.ensures.0 m))
 
 pub returns : goal.returns
 returns c =
-    let e : c.loop-choice.choice ≡ c.args.choices = omega (arith, c.loop-choice-test.false, c.loop-choice.invariant.0.0) in record { fact = (rw e at c.loop-choice.invariant.1.0, omega (arith, e, c.loop-choice.invariant.0.1.0, c.requires.0)); fact_2 = (rw e at c.loop-choice.invariant.1.1, c.loop-choice.invariant.0.1.1) }
+    let e : c.loop-choice.choice ≡ c.args.choices = omega (arith, c.loop-choice-test.false, first-within _ _ _ c.requires.1, c.loop-choice.auto) in record { fact = (rw e at c.loop-choice.invariant.1.0, omega (arith, e, c.loop-choice.invariant.0.0, c.requires.0)); fact_2 = (rw e at c.loop-choice.invariant.1.1, c.loop-choice.invariant.0.1) }

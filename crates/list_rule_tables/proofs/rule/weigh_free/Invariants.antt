@@ -1,6 +1,6 @@
 -- The loop's invariant: what the free choices passed weigh, and the heaviest of them.
 use mathlib.Core.Path.{◌≡◌}
-use Prim.Native.Nat.{◌-◌, ◌*◌, ◌≤◌}
+use Prim.Native.Nat.{◌*◌, ◌≤◌}
 use Rattle.list_tables.specs.steps.Tables.{weight_at}
 use Rattle.list_rule_tables.specs.steps.Rule.{spare_of}
 use Rattle.list_rule_tables.specs.steps.Heaviest.{heaviest_of}
@@ -8,8 +8,4 @@ use Rattle.list_rule_tables.proofs.rule.weigh_free.Given as goal
 
 abbrev pub invariant-loop-choice : goal.invariant-loop-choice
 invariant-loop-choice l =
-    ((l.choice ≤ l.choices) × ((l.spare ≤ l.choice * 65535) × (l.heaviest ≤ 65535))) × ((l.spare ≡ spare_of l.choice (weight_at l.tables) l.table l.free) × (l.heaviest ≡ heaviest_of l.choice (weight_at l.tables) l.table l.free))
-
-abbrev pub decreases-loop-choice : goal.decreases-loop-choice
-decreases-loop-choice l =
-    l.choices - l.choice
+    ((l.spare ≤ l.choice * 65535) × (l.heaviest ≤ 65535)) × ((l.spare ≡ spare_of l.choice (weight_at l.tables) l.table l.free) × (l.heaviest ≡ heaviest_of l.choice (weight_at l.tables) l.table l.free))
