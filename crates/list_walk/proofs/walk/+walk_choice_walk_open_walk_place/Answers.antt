@@ -1,4 +1,4 @@
-use Rattle.std.proofs.Common.{◌-◌, [], length, refl, ◌∙◌}
+use Rattle.std.proofs.Common.{[], length, refl, ◌∙◌}
 use Rattle.list_nodes.proofs.Falls.{to_choice, to_next, next-choice}
 use Rattle.list_walk.proofs.CallLaws.{to_open, open_place}
 use Rattle.list_walk.proofs.StandLaws.{stood_as, left_as, passed_as}
