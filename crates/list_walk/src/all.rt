@@ -6,7 +6,7 @@ ghost use Rattle.list_nodes.specs.steps.Run.{standing, run, goes_on};
 ghost use Rattle.list_walk.specs.steps.Sight.{events_of_day};
 ghost use Rattle.list_starts.specs.steps.PageReady.{ready_for, walked_if};
 
-use super::walk::walk_choice;
+use super::walk::{Given, walk_choice};
 use list_starts::ready::is_ready;
 use list_tables::shape::TABLES;
 
@@ -39,13 +39,16 @@ fn walk_ready(
     let mut places = &mut plan[..choices];
     let mut slot_min = [0usize; 24];
     let mut slot_max = [0usize; 24];
-    walk_choice(
+    let given = Given {
         asked,
-        &mins,
-        &maxs,
-        &optional,
-        &rows,
+        mins,
+        maxs,
+        optional,
         tables,
+    };
+    walk_choice(
+        &given,
+        &rows,
         domains,
         0,
         &mut places,
