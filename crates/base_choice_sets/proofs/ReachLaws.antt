@@ -2,17 +2,20 @@
 use mathlib.Core.Path.{◌≡◌, refl, sym, ◌∙◌, ap}
 use mathlib.Core.Bool.{Bool, true, false, ◌&&◌}
 use mathlib.Core.List.{List}
-use Prim.Native.Nat.{ℕ, ◌+◌, ◌-◌, ◌≤◌, ◌<◌, ◌^◌}
+use Prim.Native.Nat.{ℕ, zero, suc, ◌+◌, ◌-◌, ◌≤◌, ◌<◌, ◌^◌}
 use native.Mathlib.Omega.{arith}
 use borrow.Author.Tests.{le-ltb}
 use lib.Bits.{bit_and}
 use lib.Dec.{ltb}
-use lib.ListN.{length, get_or, drop}
+use lib.ListN.{length, get_or, take}
+use Rattle.std.specs.List.{count_by}
+use Rattle.std.proofs.lemmas.List.Sums.{count_by_more_yes, count_by_more_no}
+use Rattle.std.proofs.lemmas.List.Recursion.{or_is}
+use Rattle.std.proofs.Math.Seq.{take-length}
 use Rattle.base_lists.specs.Below.{one, count_below}
 use Rattle.base_lists.specs.Keep.{any_of}
 use Rattle.base_lists.proofs.Below.{count-more, same_test}
 use Rattle.base_lists.proofs.CountBelow.{count_ext}
-use Rattle.base_lists.proofs.Keep.{any_here, any_on, any_none}
 use Rattle.base_choice_sets.specs.Sets.{has, size_of, meets}
 use Rattle.base_choice_sets.specs.Reach.{covered_slots, undecided_members, reach_of, stuck, some_stuck}
 use Rattle.base_choice_sets.proofs.SetLaws.{and_has, has-set}
@@ -26,13 +29,23 @@ pub count_miss : (p : ℕ → Bool) (i n : ℕ) → n ≡ count_below i p → p 
 unfolding one
 count_miss p i n e t = rw (count-more p i, t, e) (omega arith)
 
--- the covered slots among those looked at so far
-unfoldable pub Covered : List ℕ → ℕ → ℕ → ℕ → Type 0
-Covered slots set covered slot = covered ≡ count_below slot λ k. meets (get_or slots k 0) set
+-- a count over a list is one over its places
+pub count-of : (p : ℕ → Bool) (l : List ℕ) → count_by p l ≡ count_below (length l) λ k. p (get_or l k 0)
+unfolding count_below
+count-of p l = ap (count_by p) (sym (take-length l)) ∙ first (length l) (omega arith)
+  where
+    one_more : (n : ℕ) (b : Bool) → n < length l → p (get_or l n 0) ≡ b → count_by p (take n l) ≡ count_below n (λ k. p (get_or l k 0))
+        → count_by p (take (n + 1) l) ≡ count_below (n + 1) λ k. p (get_or l k 0)
+    one_more n true h t e = count_by_more_yes p l n 0 h t ∙ count-hit (λ k. p (get_or l k 0)) n _ e t
+    one_more n false h t e = count_by_more_no p l n 0 h t ∙ count_miss (λ k. p (get_or l k 0)) n _ e t
 
-pub covered_all : (slots : List ℕ) (set covered slot : ℕ) → slot ≤ length slots → length slots ≤ slot → Covered slots set covered slot → covered ≡ covered_slots slots set
-unfolding Covered covered_slots
-covered_all slots set covered slot h k e = let z : slot ≡ length slots = omega arith in rw z at e
+    first : (n : ℕ) → n ≤ length l → count_by p (take n l) ≡ count_below n λ k. p (get_or l k 0)
+    first zero h = refl
+    first (suc n) h = let s : n + 1 ≡ suc n = omega arith in rw s at (one_more n (p (get_or l n 0)) (omega arith) refl (first n (omega arith)))
+
+pub covered-of : (slots : List ℕ) (set : ℕ) → count_by (λ slot. meets slot set) slots ≡ covered_slots slots set
+unfolding covered_slots
+covered-of slots set = count-of (λ slot. meets slot set) slots
 
 -- `size(set & undecided)`
 pub undecided_law : (undecided set : ℕ) → undecided < 2 ^ 64 → set < 2 ^ 64 → size_of (bit_and set undecided) ≡ undecided_members undecided set
@@ -56,41 +69,10 @@ module _ (slots : List ℕ) (undecided set : ℕ) where
   stuck-by members covered e f h =
       same_test covered (length slots - members) (covered_slots slots set + undecided_members undecided set) (length slots) (λ l. omega arith) (λ l. omega arith)
 
--- whether some set of a list is stuck is decided by those from place i on
-module _ (slots : List ℕ) (undecided : ℕ) (sets : List ℕ) (i : ℕ) where
-  unfoldable pub Left : Type 0
-  Left = some_stuck slots undecided sets ≡ any_of (stuck slots undecided) (drop i sets)
-
-  pub stuck-here : i < length sets → Left → stuck slots undecided (get_or sets i 0) ≡ true → true ≡ some_stuck slots undecided sets
-  unfolding Left
-  stuck-here h e t = sym (e ∙ any_here (stuck slots undecided) sets i 0 h t)
-
-  pub stuck-on : i < length sets → Left → stuck slots undecided (get_or sets i 0) ≡ false
-      → some_stuck slots undecided sets ≡ any_of (stuck slots undecided) (drop (i + 1) sets)
-  unfolding Left
-  stuck-on h e t = e ∙ any_on (stuck slots undecided) sets i 0 h t
-
-  pub stuck-none : length sets ≤ i → Left → false ≡ some_stuck slots undecided sets
-  unfolding Left
-  stuck-none h e = sym (e ∙ any_none (stuck slots undecided) sets i h)
-
-pub left-start : (slots : List ℕ) (undecided : ℕ) (sets : List ℕ) → Left slots undecided sets 0
-unfolding Left some_stuck
-left-start slots undecided sets = refl
-
-pub covered_start : (slots : List ℕ) (set : ℕ) → Covered slots set 0 0
-unfolding Covered count_below
-covered_start slots set = refl
-
-pub covered_on : (slots : List ℕ) (set covered slot : ℕ) → Covered slots set covered slot → meets (get_or slots slot 0) set ≡ true → Covered slots set (covered + 1) (slot + 1)
-unfolding Covered
-covered_on slots set covered slot e t = count-hit (λ k. meets (get_or slots k 0) set) slot covered e t
-
-pub covered_past : (slots : List ℕ) (set covered slot : ℕ) → Covered slots set covered slot → meets (get_or slots slot 0) set ≡ false → Covered slots set covered (slot + 1)
-unfolding Covered
-covered_past slots set covered slot e t = count_miss (λ k. meets (get_or slots k 0) set) slot covered e t
-
-pub left-on : (slots : List ℕ) (undecided : ℕ) (sets : List ℕ) (i : ℕ) → i < length sets → Left slots undecided sets i → stuck slots undecided (get_or sets i 0) ≡ false
-    → Left slots undecided sets (i + 1)
-unfolding Left
-left-on slots undecided sets i h e t = stuck-on slots undecided sets i h e t
+-- some set of a list is stuck: by what `any` answers
+pub some-of : (slots : List ℕ) (undecided : ℕ) (sets : List ℕ) (r : Bool)
+    → (r ≡ true → (i : ℕ) × (i < length sets) × (stuck slots undecided (get_or sets i 0) ≡ true))
+    → (r ≡ false → (i : ℕ) → i < length sets → stuck slots undecided (get_or sets i 0) ≡ false)
+    → r ≡ some_stuck slots undecided sets
+unfolding some_stuck any_of
+some-of slots undecided sets r some none = or_is (any_of (stuck slots undecided)) (stuck slots undecided) refl (λ _ _. refl) sets 0 r some none

@@ -23,17 +23,7 @@ fn undecided_members(undecided: u64, set: u64) -> usize
 fn covered_slots(slots: &[u64], set: u64) -> usize
     ensures { result ≡ covered_slots slots.now set }
 {
-    let mut covered = 0;
-    let mut slot = 0;
-    while slot < slots.len() {
-        if !meet(slots[slot], set) {
-            slot += 1;
-            continue;
-        }
-        covered += 1;
-        slot += 1;
-    }
-    covered
+    slots.iter().filter(|slot| meet(**slot, set)).count()
 }
 
 // Whether a set is stuck: 'distinct covered slots + undecided members < S', S being the number of slots.
@@ -52,12 +42,5 @@ pub fn is_stuck(slots: &[u64], undecided: u64, set: u64) -> bool
 pub fn some_stuck(slots: &[u64], undecided: u64, sets: &[u64]) -> bool
     ensures { result ≡ some_stuck slots.now undecided sets.now }
 {
-    let mut i = 0;
-    while i < sets.len() {
-        if is_stuck(slots, undecided, sets[i]) {
-            return true;
-        }
-        i += 1;
-    }
-    false
+    sets.iter().any(|set| is_stuck(slots, undecided, *set))
 }

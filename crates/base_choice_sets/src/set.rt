@@ -50,5 +50,5 @@ pub fn is_same(one: u64, other: u64) -> bool
 pub fn size(set: u64) -> usize
     ensures { result ≡ size_of set }
 {
-    u64::count_ones(set) as usize
+    set.count_ones() as usize
 }

@@ -1,7 +1,7 @@
 -- Laws of the choice with which a row is decided: one for each way through the code.
 use mathlib.Core.Path.{◌≡◌, sym, ◌∙◌, ap}
 use mathlib.Core.List.{List}
-use Prim.Native.Nat.{ℕ, ◌+◌, ◌≤◌, ◌<◌}
+use Prim.Native.Nat.{ℕ, ◌+◌, ◌≤◌, ◌<◌, max}
 use native.Mathlib.Numerals.{add-one}
 use native.Mathlib.Omega.{arith}
 use borrow.Author.Tests.{lt-ltb, le-ltb, eq-eqb, ne_eqb}
@@ -27,13 +27,9 @@ pub later_same : (left right : ℕ) → left ≡ right → never ≡ later_choic
 unfolding later_choice
 later_same left right e = rw (eq-eqb left right e)
 
-pub later-right : (left right : ℕ) → (left ≡ right → ⊥) → left < right → right ≡ later_choice left right
+pub later_two : (left right r : ℕ) → (left ≡ right → ⊥) → r ≡ max left right → r ≡ later_choice left right
 unfolding later_choice
-later-right left right n h = rw (ne_eqb left right n) (omega arith)
-
-pub later-left : (left right : ℕ) → (left ≡ right → ⊥) → right ≤ left → left ≡ later_choice left right
-unfolding later_choice
-later-left left right n h = rw (ne_eqb left right n) (omega arith)
+later_two left right r n e = rw (ne_eqb left right n, e)
 
 -- ---- by the kind
 

@@ -122,7 +122,7 @@ module _ (slots choice : ℕ) (plan : List ℕ) where
         ∙ sym (rows_snoc (take i rows) (get_or rows i 0) domain)
         ∙ ap (λ (l : List ℕ). rows_leave slots choice plan l domain) (sym (ap (λ (n : ℕ). take n rows) (add-one i) ∙ take-suc rows i 0 h))
 
-    pub rows_all : (i front left : ℕ) → length rows ≤ i → i < front → left ≡ rows_leave slots choice plan (take i rows) domain
+    pub rows_all : (i front left : ℕ) → length rows ≤ i → i ≤ front → left ≡ rows_leave slots choice plan (take i rows) domain
         → left ≡ rows_leave slots choice plan (take front rows) domain
     rows_all i front left h k e =
         e ∙ ap (λ (l : List ℕ). rows_leave slots choice plan l domain) (take_all i rows h ∙ sym (take_all front rows (omega arith)))

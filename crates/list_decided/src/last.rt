@@ -26,10 +26,7 @@ fn later_of(left: usize, right: usize) -> usize
     if left == right {
         return NEVER;
     }
-    if left < right {
-        return right;
-    }
-    left
+    left.max(right)
 }
 
 // The choice with which a number's row is decided, by its kind.
@@ -52,12 +49,10 @@ pub fn last_of(slots: usize, number: u64) -> usize
 pub fn front_of(slots: usize, choice: usize, rows: &[u64]) -> usize
     ensures { (result ≡ front_of slots choice rows.now) × (result ≤ length rows.now) }
 {
-    let mut front = 0;
-    while front < rows.len() {
-        if last_of(slots, rows[front]) != choice {
+    for (front, number) in rows.iter().enumerate() {
+        if last_of(slots, *number) != choice {
             return front;
         }
-        front += 1;
     }
-    front
+    rows.len()
 }

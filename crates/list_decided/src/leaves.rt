@@ -4,7 +4,6 @@ ghost use Rattle.std.specs.Prelude.{◌≡◌, ◌≤◌, take};
 ghost use Rattle.day_rows.specs.Row.{row_of};
 ghost use Rattle.list_decided.specs.steps.Leaves.{other_place, beside_place, apart_from, facing, by_offset, row_leaves, rows_leave};
 
-use base_pools::number::wide_word;
 use day_rows::kind::Kind;
 use day_rows::row::Row;
 use list_domains::places::{kept, place_number};
@@ -56,14 +55,14 @@ fn facing_slot(slots: usize, up: usize, down: usize, domain: u64) -> u64
 fn by_offset(slots: usize, is_left: bool, place: u8, extra: u16, domain: u64) -> u64
     ensures { result ≡ by_offset slots is_left place extra domain }
 {
-    let other = wide_word(place as u16);
+    let other = usize::from(place);
     if slots <= other {
         return kept(domain, slots, true, false);
     }
     if is_left {
-        return facing_slot(slots, other + 32_768, wide_word(extra), domain);
+        return facing_slot(slots, other + 32_768, usize::from(extra), domain);
     }
-    facing_slot(slots, other + wide_word(extra), 32_768, domain)
+    facing_slot(slots, other + usize::from(extra), 32_768, domain)
 }
 
 // What a number's row leaves of the choice's places, by its kind.
@@ -100,13 +99,11 @@ pub fn rows_leave(
     ensures { result ≡ rows_leave slots choice plan.now (take front rows.now) domain }
 {
     let mut left = domain;
-    let mut i = 0;
-    while i < front {
-        if rows.len() <= i {
+    for (i, number) in rows.iter().enumerate() {
+        if front <= i {
             return left;
         }
-        left = row_leaves(slots, choice, plan, rows[i], left);
-        i += 1;
+        left = row_leaves(slots, choice, plan, *number, left);
     }
     left
 }

@@ -82,10 +82,10 @@ more-alive domains choice h n = all_more (λ choice. not (eqb (get_or domains ch
 
 module _ (counts : Counts) (maxs rows tables : List ℕ) (free : ℕ) (lacks domains : List ℕ) where
   -- with limits: some slot's least count is one that it can't have
-  pub limits-broken : {dead : Bool} {after : List ℕ} → dead ≡ broken (entry_at tables) counts rows (first_in counts.choices free) lacks domains → dead ≡ true
-      → after ≡ replicate 64 0 → after ≡ limits_leave counts maxs rows tables free lacks domains
+  pub limits-broken : {dead : Bool} → dead ≡ broken (entry_at tables) counts rows (first_in counts.choices free) lacks domains → dead ≡ true
+      → replicate 64 0 ≡ limits_leave counts maxs rows tables free lacks domains
   unfolding limits_leave
-  limits-broken d t z = z ∙ sym (rw (sym d ∙ t))
+  limits-broken d t = sym (rw (sym d ∙ t))
 
   -- with limits: what tables, and then counts leave
   pub limits-by : {dead : Bool} {wants rooms by_tables after : List ℕ} → dead ≡ broken (entry_at tables) counts rows (first_in counts.choices free) lacks domains → dead ≡ false
@@ -108,12 +108,11 @@ module _ (counts : Counts) (maxs rows tables domains : List ℕ) {free : ℕ} {l
   unfolding weighed
   weigh_limited t a = a ∙ ap₂ (λ (x : ℕ) (y : List ℕ). limits_leave counts maxs rows tables x y domains) f l ∙ sym (rw (sym h ∙ t))
 
-  pub weigh_unlimited : {none after : List ℕ} → limited ≡ false → none ≡ replicate 24 0
-      → after ≡ tables_rule (entry_at tables) (lightest_at tables) (weight_at tables) counts maxs free lacks none domains → after ≡ weighed counts maxs rows tables domains
+  pub weigh_unlimited : {after : List ℕ} → limited ≡ false
+      → after ≡ tables_rule (entry_at tables) (lightest_at tables) (weight_at tables) counts maxs free lacks (replicate 24 0) domains → after ≡ weighed counts maxs rows tables domains
   unfolding weighed
-  weigh_unlimited t n a =
+  weigh_unlimited t a =
       a
-      ∙ ap (λ (x : List ℕ). tables_rule (entry_at tables) (lightest_at tables) (weight_at tables) counts maxs free lacks x domains) n
       ∙ ap₂ (λ (x : ℕ) (y : List ℕ). tables_rule (entry_at tables) (lightest_at tables) (weight_at tables) counts maxs x y (replicate 24 0) domains) f l
       ∙ sym (rw (sym h ∙ t))
 
@@ -132,9 +131,9 @@ module _ (counts : Counts) (mins maxs rows tables plan : List ℕ) (choice : ℕ
     living_is = l ∙ ap (λ (k : Counts). alive k.choices by-counts) e ∙ ap (alive counts.choices) weighed-is
 
     -- the start is dead by tables and counts
-    pub looked_dead : {seen : List ℕ} → living ≡ false → seen ≡ replicate 64 0 → seen ≡ looked_ahead counts mins maxs rows tables plan choice domains
+    pub looked_dead : living ≡ false → replicate 64 0 ≡ looked_ahead counts mins maxs rows tables plan choice domains
     unfolding looked_ahead kept_if_alive
-    looked_dead f z = z ∙ sym (rw (sym living_is ∙ f))
+    looked_dead f = sym (rw (sym living_is ∙ f))
 
     -- the start is alive: what rule after rule leaves
     pub looked-by : {summed kept seen : List ℕ} → living ≡ true
@@ -153,18 +152,13 @@ module _ (counts : Counts) (mins maxs rows tables plan : List ℕ) (choice : ℕ
 -- ---- as the walk sees it
 
 -- whether the end is near: no choice is left, or few are
-module _ (choices choice : ℕ) where
-  pub none_left : choices ≤ choice → true ≡ near_end choices choice
-  unfolding near_end
-  none_left h = sym (le-leb choices (choice + 8) (omega (arith, h)))
-
-  pub some_left : choice ≤ choices → leb (choices - choice) 8 ≡ near_end choices choice
-  unfolding near_end
-  some_left h = go (leb (choices - choice) 8) refl
-    where
-      go : (b : Bool) → leb (choices - choice) 8 ≡ b → b ≡ leb choices (choice + 8)
-      go true t = sym (le-leb choices (choice + 8) (omega (arith, leb-true (choices - choice) 8 t, h)))
-      go false t = sym (lt-leb choices (choice + 8) (omega (arith, leb-false (choices - choice) 8 t, h)))
+pub few_left : (choices choice left : ℕ) → left ≡ choices - choice → leb left 8 ≡ near_end choices choice
+unfolding near_end
+few_left choices choice left e = go (leb left 8) refl
+  where
+    go : (b : Bool) → leb left 8 ≡ b → leb left 8 ≡ leb choices (choice + 8)
+    go true t = t ∙ sym (le-leb choices (choice + 8) (omega (arith, leb-true left 8 t, e)))
+    go false t = t ∙ sym (lt-leb choices (choice + 8) (omega (arith, leb-false left 8 t, e)))
 
 -- the places that are open, by counts that are known by now
 pub opened-by : (counts : Counts) (mins maxs optional rows tables plan : List ℕ) (choice : ℕ) (sums fills : List ℕ) (domain : ℕ) {counts' : Counts} {given left places : ℕ} → counts' ≡ counts

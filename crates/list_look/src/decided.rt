@@ -2,7 +2,6 @@
 ghost use Rattle.std.specs.Prelude.{◌≡◌};
 ghost use Rattle.list_look.specs.steps.Look.{decided};
 
-use base_pools::wide;
 use list_domains::places::{only, place_number};
 use plan_check::plan::slot_of;
 
@@ -23,6 +22,6 @@ pub(crate) fn with_decided(
         return seen;
     }
     let place = slot_of(plan, (choice - 1) as u16);
-    seen[choice - 1] = only(place_number(slots, wide(place)));
+    seen[choice - 1] = only(place_number(slots, usize::from(place)));
     seen
 }

@@ -3,7 +3,7 @@ ghost use Rattle.std.specs.Prelude.{◌≡◌};
 ghost use Rattle.list_nodes.specs.steps.Walk.{counts_of};
 ghost use Rattle.list_look.specs.steps.Look.{looked_ahead};
 
-use super::alive::{alive_or, all_alive, no_places};
+use super::alive::{alive_or, is_alive};
 use super::decided::with_decided;
 use super::weigh::weigh;
 use list_rule_rows::rows::narrow_by_rows;
@@ -31,8 +31,8 @@ pub fn look_ahead(
     let counts = counts_of(asked);
     let mut seen = with_decided(counts.slots, choice, plan, *domains);
     weigh(counts, maxs, rows, tables, &mut seen);
-    if !all_alive(counts.choices, &seen) {
-        return no_places();
+    if !is_alive(counts.choices, &seen) {
+        return [0u64; 64];
     }
     narrow_by_slots(counts, mins, maxs, &mut seen);
     narrow_by_rows(counts, rows, &mut seen);

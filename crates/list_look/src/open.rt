@@ -8,7 +8,7 @@ ghost use Rattle.list_look.specs.steps.Slots.{slot_fits, slot_open, leaves_enoug
 ghost use Rattle.list_look.specs.steps.Open.{open_places};
 
 use base_choice_sets::set::with_if;
-use base_pools::number::{flag_of, less, wide_word};
+use base_pools::number::flag_of;
 use day_rows::check::Counts;
 use list_starts::places::amount_of;
 use list_tables::shape::TABLES;
@@ -32,7 +32,7 @@ fn lightest(tables: &[u16; TABLES], from: usize, lack: usize) -> usize
     requires { (from ≤ 64) × (lack ≤ 200) }
     ensures { (result ≡ entry_at tables.now 1 from lack) × (result ≤ 65535) }
 {
-    wide_word(tables[(65 + from) * 201 + lack])
+    usize::from(tables[(65 + from) * 201 + lack])
 }
 
 // A choice's weight in table 1.
@@ -40,7 +40,7 @@ fn weight_of(tables: &[u16; TABLES], choice: usize) -> usize
     requires { choice < 64 }
     ensures { (result ≡ weight_at tables.now 1 choice) × (result ≤ 65535) }
 {
-    wide_word(tables[52324 + choice])
+    usize::from(tables[52324 + choice])
 }
 
 // What the choices from one on weigh together in table 1: 64 weights at most, each at most 65,535.
@@ -49,10 +49,8 @@ fn weight_after(tables: &[u16; TABLES], choices: usize, from: usize) -> usize
     ensures { (result ≡ weight_after (weight_at tables.now) choices from) × (result ≤ 4194240) }
 {
     let mut spare = 0;
-    let mut choice = from;
-    while choice < choices {
+    for choice in from..choices {
         spare += weight_of(tables, choice);
-        choice += 1;
     }
     spare
 }
@@ -70,10 +68,8 @@ fn need_by_fills(
         (result ≡ need_of (entry_at tables.now) slots 1 from lacks) × (result ≤ 1572840) }
 {
     let mut need = 0;
-    let mut slot = 0;
-    while slot < slots {
-        need += lightest(tables, from, less(choosers, slot_max[slot]));
-        slot += 1;
+    for slot in 0..slots {
+        need += lightest(tables, from, choosers.saturating_sub(slot_max[slot]));
     }
     need
 }
@@ -118,11 +114,9 @@ fn fitting_slots(
         return 0;
     }
     let mut found = 0;
-    let mut slot = 0;
-    while slot < slots {
+    for slot in 0..slots {
         let fits = slot_fits(choosers, least, slot_min, domain, slot);
         found = with_if(found, slot, fits);
-        slot += 1;
     }
     found
 }
@@ -161,8 +155,8 @@ fn leaves_enough(
     ensures { let entry = entry_at tables.now in
         result ≡ leaves_enough entry choosers from slot_max.now most need spare slot }
 {
-    let lack = less(choosers, slot_max[slot]);
-    let rest = lightest(tables, from, less(lack, most));
+    let lack = choosers.saturating_sub(slot_max[slot]);
+    let rest = lightest(tables, from, lack.saturating_sub(most));
     let whole = lightest(tables, from, lack);
     rest + need <= spare + whole
 }
@@ -222,13 +216,11 @@ fn open_slots(
         return 0;
     }
     let mut found = 0;
-    let mut slot = 0;
-    while slot < slots {
+    for slot in 0..slots {
         let inside = slot_open(
             choosers, from, slot_max, tables, least, slot_min, most, need, spare, domain, slot,
         );
         found = with_if(found, slot, inside);
-        slot += 1;
     }
     found
 }

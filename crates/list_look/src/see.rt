@@ -12,10 +12,7 @@ use list_tables::shape::TABLES;
 pub fn near_end(choices: usize, choice: usize) -> bool
     ensures { result ≡ near_end choices choice }
 {
-    if choices <= choice {
-        return true;
-    }
-    choices - choice <= 8
+    choices.saturating_sub(choice) <= 8
 }
 
 // A choice's domain, no place of one past the list.

@@ -2,8 +2,6 @@
 ghost use Rattle.std.specs.Prelude.{◌≡◌};
 ghost use Rattle.list_look.specs.steps.Look.{limits_leave, weighed};
 
-use super::alive::no_places;
-use base_pools::zeros::figures;
 use day_rows::check::Counts;
 use list_rule_counts::bounds::{bounds_of, has_limit};
 use list_rule_counts::rule::narrow_by_counts;
@@ -28,7 +26,7 @@ fn narrow_by_limits(
 {
     let bounds = bounds_of(counts, rows, tables, free, lacks, domains);
     if bounds.broken {
-        *domains = no_places();
+        *domains = [0u64; 64];
         return;
     }
     let wants = bounds.wants;
@@ -56,6 +54,6 @@ pub(crate) fn weigh(
         narrow_by_limits(counts, maxs, rows, tables, free, &lacks, domains);
         return;
     }
-    let none = figures();
+    let none = [0usize; 24];
     narrow_by_tables(counts, maxs, tables, free, &lacks, &none, domains);
 }

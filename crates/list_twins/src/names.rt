@@ -7,7 +7,6 @@ ghost use Rattle.plan_check.specs.Plan.{slot_of};
 ghost use Rattle.list_twins.specs.steps.Twins.{offset_names, row_names, named};
 ghost use Rattle.list_twins.specs.steps.Alike.{either_of, asked_of};
 
-use base_pools::number::wide_word;
 use day_rows::kind::Kind;
 use day_rows::row::Row;
 use list_domains::places::only;
@@ -24,7 +23,7 @@ fn either(one: u64, other: u64) -> u64
 fn every() -> u64
     ensures { result ≡ set_of 64 (λ slot. true) }
 {
-    0xFFFF_FFFF_FFFF_FFFF
+    u64::MAX
 }
 
 // Whether a choice has its place: it comes before the first that has none.
@@ -56,8 +55,8 @@ fn asked_of(place: u8, up: u16, down: u16) -> u64
     if place == OMITTED {
         return 0;
     }
-    let high = wide_word(place as u16) + wide_word(up);
-    let low = wide_word(down);
+    let high = usize::from(place) + usize::from(up);
+    let low = usize::from(down);
     if high < low {
         return 0;
     }
@@ -119,10 +118,8 @@ pub(crate) fn named_slots(rows: &[u64], choice: usize, plan: &[u8]) -> u64
     ensures { result ≡ set_of 64 (named (take choice plan.now) rows.now) }
 {
     let mut names = 0;
-    let mut i = 0;
-    while i < rows.len() {
-        names = either(names, names_of(choice, plan, rows[i]));
-        i += 1;
+    for number in rows {
+        names = either(names, names_of(choice, plan, *number));
     }
     names
 }

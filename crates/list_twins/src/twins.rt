@@ -6,7 +6,6 @@ ghost use Rattle.list_twins.specs.steps.Alike.{alike};
 
 use super::names::named_slots;
 use base_choice_sets::set::{member, with_if};
-use base_pools::number::smaller;
 use day_rows::check::Counts;
 
 // Whether the sums of two slots are the same.
@@ -34,10 +33,7 @@ fn is_alike(
     if !same_sum(slot_min[slot], slot_min[other]) {
         return false;
     }
-    same_sum(
-        smaller(slot_max[slot], choosers),
-        smaller(slot_max[other], choosers),
-    )
+    same_sum(slot_max[slot].min(choosers), slot_max[other].min(choosers))
 }
 
 // The slots that are like a given one.
@@ -53,14 +49,9 @@ fn alike_slots(
     ensures { result ≡ set_of slots (alike choosers names slot_min.now slot_max.now slot) }
 {
     let mut set = 0;
-    let mut other = 0;
-    while other < slots {
-        set = with_if(
-            set,
-            other,
-            is_alike(choosers, names, slot_min, slot_max, slot, other),
-        );
-        other += 1;
+    for other in 0..slots {
+        let inside = is_alike(choosers, names, slot_min, slot_max, slot, other);
+        set = with_if(set, other, inside);
     }
     set
 }

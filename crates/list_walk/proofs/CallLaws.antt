@@ -1,5 +1,5 @@
 -- The walk from the empty start.
-use Rattle.std.proofs.Common.{◌≡◌, ℕ, ◌+◌, ◌-◌, ◌*◌, ◌^◌, ◌<◌, ◌≤◌, true, List, [], length, take, replicate, sym, ap, ◌∙◌, arith}
+use Rattle.std.proofs.Common.{length-take-le, ◌≡◌, ℕ, ◌+◌, ◌-◌, ◌*◌, ◌^◌, ◌<◌, ◌≤◌, true, List, [], length, take, replicate, sym, ap, ◌∙◌, arith}
 use native.Mathlib.Nat.{sub-zero}
 use lib.ListN.{length-replicate}
 use Rattle.plan_check.specs.Day.{Day}
@@ -17,6 +17,10 @@ to_open t size choice e = omega arith
 
 pub open_place : (t size choice left slots : ℕ) → (size - choice) * 32 + 30 ≡ t → left ≤ slots + 1 → slots ≤ 24 → (size - choice) * 32 + left < t
 open_place t size choice left slots e h few = omega arith
+
+-- the plan is the front of a pool of zeros
+pub plan-length : (choices most : ℕ) → choices ≤ most → length {A = ℕ} (take choices (replicate most 0)) ≡ choices
+plan-length choices most h = length-take-le choices (replicate most 0) (rw (length-replicate {A = ℕ} most 0) h)
 
 module _ (day : Day) (first room : ℕ) (buffer : List ℕ) (j : Judged day room buffer) (plan sums fills : List ℕ) (p : length plan ≡ day.counts.choices)
     (e : sums ≡ replicate 24 0) (f : fills ≡ replicate 24 0) where

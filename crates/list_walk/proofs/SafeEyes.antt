@@ -1,5 +1,5 @@
 -- The walk's eyes are safe: whatever they pass over, no feasible plan goes on from it.
-use Rattle.std.proofs.Common.{◌≡◌, ℕ, ◌+◌, ◌-◌, ◌<◌, ◌≤◌, min, Bool, true, false, not, ◌&&◌, List, [], ◌∷◌, ◌++◌, map, length, get_or, take, drop, replicate, sym, refl, ap, ◌∙◌, arith, length-append}
+use Rattle.std.proofs.Common.{◌≡◌, ℕ, ◌-◌, ◌<◌, ◌≤◌, min, Bool, true, false, not, ◌&&◌, List, [], ◌∷◌, ◌++◌, map, length, get_or, take, drop, replicate, sym, refl, ap, ◌∙◌, arith, length-append}
 use mathlib.Core.Bool.{false≢true}
 use lib.ListN.{length-map, length-replicate}
 use lib.Seq.{take-append_seam, get_or-append_seam, append_snoc}

@@ -6,8 +6,7 @@ ghost use Rattle.list_nodes.specs.steps.Run.{standing, run, goes_on};
 ghost use Rattle.list_walk.specs.steps.Sight.{events_of_day};
 ghost use Rattle.list_starts.specs.steps.PageReady.{ready_for, walked_if};
 
-use super::walk::walk_choice;
-use base_pools::zeros::{bytes, figures};
+use super::walk::{Given, walk_choice};
 use list_starts::ready::is_ready;
 use list_tables::shape::TABLES;
 
@@ -36,17 +35,20 @@ fn walk_ready(
         after ≡ run (first_of asked.now) (room_of asked.now) before events }
 {
     let choices = mins.len();
-    let mut plan = bytes();
+    let mut plan = [0u8; 64];
     let mut places = &mut plan[..choices];
-    let mut slot_min = figures();
-    let mut slot_max = figures();
-    walk_choice(
+    let mut slot_min = [0usize; 24];
+    let mut slot_max = [0usize; 24];
+    let given = Given {
         asked,
-        &mins,
-        &maxs,
-        &optional,
-        &rows,
+        mins,
+        maxs,
+        optional,
         tables,
+    };
+    walk_choice(
+        &given,
+        &rows,
         domains,
         0,
         &mut places,

@@ -6,7 +6,6 @@ ghost use Rattle.list_decided.specs.steps.Decided.{front_of};
 ghost use Rattle.list_look.specs.steps.Look.{opened_at};
 ghost use Rattle.list_walk.specs.steps.Sight.{next_within};
 
-use base_pools::number::less;
 use list_decided::last::front_of;
 use list_look::see::open_to;
 use list_starts::full::SLOTS;
@@ -17,11 +16,7 @@ use list_tables::shape::TABLES;
 fn from_first(set: u64, left: usize) -> usize
     ensures { result ≡ left - count_trailing_zeros 64 set }
 {
-    let skipped = u64::trailing_zeros(set) as usize;
-    if left <= skipped {
-        return 0;
-    }
-    left - skipped
+    left.saturating_sub(set.trailing_zeros() as usize)
 }
 
 // How many places are left from the next one on that a domain has, of the last so many; 0 if there is none.
@@ -51,7 +46,7 @@ pub fn first_in(slots: usize, domain: u64) -> usize
 pub fn next_after(asked: &[usize; 6], places: u64, left: usize) -> usize
     ensures { result ≡ next_within (slots_of asked.now) places (left - 1) }
 {
-    next_open(asked[SLOTS], places, less(left, 1))
+    next_open(asked[SLOTS], places, left.saturating_sub(1))
 }
 
 // A list without its first so many rows; none are left of a shorter one.

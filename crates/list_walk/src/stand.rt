@@ -7,7 +7,6 @@ ghost use Rattle.list_twins.specs.steps.Twins.{twins_of};
 ghost use Rattle.list_walk.specs.steps.Sight.{still_open};
 ghost use Rattle.list_walk.specs.steps.Stand.{put_at, added_at, taken_at, Taken, LeftPlace};
 
-use base_pools::number::less;
 use list_look::see::near_end;
 use list_starts::full::{CHOICES, SLOTS, counts_of};
 use list_starts::places::{amount_of, place_at};
@@ -49,7 +48,7 @@ fn add_at(slots: usize, place: usize, amount: usize, sums: &mut [usize; 24])
     if slots <= place {
         return;
     }
-    sums[place] = std::num::wrapping_add_usize(sums[place], amount);
+    sums[place] = sums[place].wrapping_add(amount);
 }
 
 // The sums with an amount taken away at a place.
@@ -62,7 +61,7 @@ fn take_at(slots: usize, place: usize, amount: usize, sums: &mut [usize; 24])
     if slots <= place {
         return;
     }
-    sums[place] = less(sums[place], amount);
+    sums[place] = sums[place].saturating_sub(amount);
 }
 
 // The choice takes the place with so many left, itself among them; the answer is what leave_place needs.

@@ -14,16 +14,22 @@ use list_starts::full::list_full;
 use list_starts::ready::goes_on;
 use list_tables::shape::TABLES;
 
+// What is the same at every call: the numbers asked, the day without its rows, and the tables.
+#[derive(Clone, Copy)]
+pub(crate) struct Given<'a> {
+    pub asked: &'a [usize; 6],
+    pub mins: &'a [u16],
+    pub maxs: &'a [u16],
+    pub optional: &'a [u8],
+    pub tables: &'a [u16; TABLES],
+}
+
 // 'one function per choice' of the walk: a start takes a turn, looks ahead if enough choices are left, and
 // goes on to the places that are open.
 #[cycle(walk_choice_walk_open_walk_place)]
 pub(crate) fn walk_choice(
-    asked: &[usize; 6],
-    mins: &&[u16],
-    maxs: &&[u16],
-    optional: &&[u8],
+    given: &Given,
     rows: &&[u64],
-    tables: &[u16; TABLES],
     domains: &[u64; 64],
     choice: usize,
     plan: &mut &mut [u8],
@@ -33,18 +39,19 @@ pub(crate) fn walk_choice(
     met: &mut u64,
     buffer: &mut [u8],
 ) -> bool
-    requires { let day = day_asked asked.now mins.now.now maxs.now.now optional.now.now rows.now.now in
-        WalkReady day (first_of asked.now) (room_of asked.now) choice choice
+    requires { let g = given.now in
+        let day = day_asked g.asked.now g.mins.now g.maxs.now g.optional.now rows.now.now in
+        WalkReady day (first_of g.asked.now) (room_of g.asked.now) choice choice
         plan.old.now slot_min.old slot_max.old turns.old met.old buffer.old }
-    ensures { let day = day_asked asked.now mins.now.now maxs.now.now
-        optional.now.now rows.now.now in
+    ensures { let g = given.now in
+        let day = day_asked g.asked.now g.mins.now g.maxs.now g.optional.now rows.now.now in
         let choices-left = length plan.old.now - choice in
         let start = take choice plan.old.now in
-        let events = events_from day tables.now choices-left start
+        let events = events_from day g.tables.now choices-left start
         slot_min.old slot_max.old domains.now in
         let before = standing true turns.old met.old buffer.old in
         let after = standing result turns.new met.new buffer.new in
-        Walked (first_of asked.now) (room_of asked.now) choice events
+        Walked (first_of g.asked.now) (room_of g.asked.now) choice events
         plan.old.now plan.new.now slot_min.old slot_min.new
         slot_max.old slot_max.new before after }
 {
@@ -53,19 +60,26 @@ pub(crate) fn walk_choice(
     }
     *turns -= 1;
     if choice == plan.len() {
-        list_full(asked, *rows, slot_max, *plan, met, buffer);
-        return goes_on(asked, *met);
+        list_full(given.asked, *rows, slot_max, *plan, met, buffer);
+        return goes_on(given.asked, *met);
     }
     if near_end(plan.len(), choice) {
         return walk_open(
-            asked, mins, maxs, optional, rows, tables, domains, choice, plan, slot_min, slot_max,
-            turns, met, buffer,
+            given, rows, domains, choice, plan, slot_min, slot_max, turns, met, buffer,
         );
     }
-    let seen = look_ahead(asked, *mins, *maxs, *rows, tables, choice, *plan, domains);
+    let seen = look_ahead(
+        given.asked,
+        given.mins,
+        given.maxs,
+        *rows,
+        given.tables,
+        choice,
+        *plan,
+        domains,
+    );
     walk_open(
-        asked, mins, maxs, optional, rows, tables, &seen, choice, plan, slot_min, slot_max, turns,
-        met, buffer,
+        given, rows, &seen, choice, plan, slot_min, slot_max, turns, met, buffer,
     )
 }
 
@@ -73,12 +87,8 @@ pub(crate) fn walk_choice(
 // are left behind.
 #[cycle(walk_choice_walk_open_walk_place)]
 fn walk_open(
-    asked: &[usize; 6],
-    mins: &&[u16],
-    maxs: &&[u16],
-    optional: &&[u8],
+    given: &Given,
     rows: &&[u64],
-    tables: &[u16; TABLES],
     domains: &[u64; 64],
     choice: usize,
     plan: &mut &mut [u8],
@@ -88,35 +98,42 @@ fn walk_open(
     met: &mut u64,
     buffer: &mut [u8],
 ) -> bool
-    requires { let day = day_asked asked.now mins.now.now maxs.now.now optional.now.now rows.now.now in
-        WalkReady day (first_of asked.now) (room_of asked.now) (choice + 1) choice
+    requires { let g = given.now in
+        let day = day_asked g.asked.now g.mins.now g.maxs.now g.optional.now rows.now.now in
+        WalkReady day (first_of g.asked.now) (room_of g.asked.now) (choice + 1) choice
         plan.old.now slot_min.old slot_max.old turns.old met.old buffer.old }
-    ensures { let day = day_asked asked.now mins.now.now maxs.now.now
-        optional.now.now rows.now.now in
+    ensures { let g = given.now in
+        let day = day_asked g.asked.now g.mins.now g.maxs.now g.optional.now rows.now.now in
         let choices-left = length plan.old.now - (choice + 1) in
         let start = take choice plan.old.now in
-        let events = events_seen day tables.now choices-left start
+        let events = events_seen day g.tables.now choices-left start
         slot_min.old slot_max.old domains.now in
         let before = standing true turns.old met.old buffer.old in
         let after = standing result turns.new met.new buffer.new in
-        Walked (first_of asked.now) (room_of asked.now) choice events
+        Walked (first_of g.asked.now) (room_of g.asked.now) choice events
         plan.old.now plan.new.now slot_min.old slot_min.new
         slot_max.old slot_max.new before after }
 {
     let opened = open_next(
-        asked, *mins, *maxs, *optional, *rows, tables, choice, *plan, slot_min, slot_max, domains,
+        given.asked,
+        given.mins,
+        given.maxs,
+        given.optional,
+        *rows,
+        given.tables,
+        choice,
+        *plan,
+        slot_min,
+        slot_max,
+        domains,
     );
     if opened.left == 0 {
         return true;
     }
     let after = rows_after(*rows, opened.front);
     walk_place(
-        asked,
-        mins,
-        maxs,
-        optional,
+        given,
         &after,
-        tables,
         domains,
         choice,
         opened.places,
@@ -134,12 +151,8 @@ fn walk_open(
 // takes the next place that is still open.
 #[cycle(walk_choice_walk_open_walk_place)]
 fn walk_place(
-    asked: &[usize; 6],
-    mins: &&[u16],
-    maxs: &&[u16],
-    optional: &&[u8],
+    given: &Given,
     rows: &&[u64],
-    tables: &[u16; TABLES],
     domains: &[u64; 64],
     choice: usize,
     places: u64,
@@ -151,32 +164,38 @@ fn walk_place(
     met: &mut u64,
     buffer: &mut [u8],
 ) -> bool
-    requires { let day = day_asked asked.now mins.now.now maxs.now.now optional.now.now rows.now.now in
-        WalkReady day (first_of asked.now) (room_of asked.now) (choice + 1) choice
+    requires { let g = given.now in
+        let day = day_asked g.asked.now g.mins.now g.maxs.now g.optional.now rows.now.now in
+        WalkReady day (first_of g.asked.now) (room_of g.asked.now) (choice + 1) choice
         plan.old.now slot_min.old slot_max.old turns.old met.old buffer.old
         × Takes day choice places left slot_min.old }
-    ensures { let day = day_asked asked.now mins.now.now maxs.now.now
-        optional.now.now rows.now.now in
+    ensures { let g = given.now in
+        let day = day_asked g.asked.now g.mins.now g.maxs.now g.optional.now rows.now.now in
         let choices-left = length plan.old.now - (choice + 1) in
         let start = take choice plan.old.now in
-        let events = events_left day tables.now choices-left start
+        let events = events_left day g.tables.now choices-left start
         slot_min.old slot_max.old domains.now places left in
         let before = standing true turns.old met.old buffer.old in
         let after = standing result turns.new met.new buffer.new in
-        Walked (first_of asked.now) (room_of asked.now) choice events
+        Walked (first_of g.asked.now) (room_of g.asked.now) choice events
         plan.old.now plan.new.now slot_min.old slot_min.new
         slot_max.old slot_max.new before after }
 {
     let before = *met;
-    let stood = take_place(asked, mins, maxs, choice, left, plan, slot_min, slot_max);
+    let stood = take_place(
+        given.asked,
+        &given.mins,
+        &given.maxs,
+        choice,
+        left,
+        plan,
+        slot_min,
+        slot_max,
+    );
     let place = stood.place;
     let going = walk_choice(
-        asked,
-        mins,
-        maxs,
-        optional,
+        given,
         rows,
-        tables,
         domains,
         choice + 1,
         plan,
@@ -186,20 +205,27 @@ fn walk_place(
         met,
         buffer,
     );
-    leave_place(asked, stood, slot_min, slot_max);
+    leave_place(given.asked, stood, slot_min, slot_max);
     if !going {
         return false;
     }
     let unmet = none_met(before, *met);
     let still = pass_over(
-        asked, rows, choice, plan, place, unmet, places, slot_min, slot_max,
+        given.asked,
+        rows,
+        choice,
+        plan,
+        place,
+        unmet,
+        places,
+        slot_min,
+        slot_max,
     );
-    let next = next_after(asked, still, left);
+    let next = next_after(given.asked, still, left);
     if next == 0 {
         return true;
     }
     walk_place(
-        asked, mins, maxs, optional, rows, tables, domains, choice, still, next, plan, slot_min,
-        slot_max, turns, met, buffer,
+        given, rows, domains, choice, still, next, plan, slot_min, slot_max, turns, met, buffer,
     )
 }

@@ -5,12 +5,12 @@ use Rattle.list_decided.proofs.leaves.by_offset.Goals as goal
 
 pub returns-then-slots-other : goal.returns-then-slots-other
 returns-then-slots-other c =
-    c.kept.ensures ∙ offset-omitted _ _ _ _ _ _ c.wide_word-other.ensures.0 c.if-slots-other.true
+    c.kept.ensures ∙ offset-omitted _ _ _ _ _ _ c.from-other.ensures c.if-slots-other.true
 
 pub returns-then-is_left : goal.returns-then-is_left
 returns-then-is_left c =
-    c.facing_slot.ensures ∙ offset-left _ _ _ _ _ _ c.wide_word-other.ensures.0 _ c.wide_word.ensures.0 c.if-slots-other.false c.if-is_left.true
+    c.facing_slot.ensures ∙ offset-left _ _ _ _ _ _ c.from-other.ensures _ c.from.ensures c.if-slots-other.false c.if-is_left.true
 
 pub returns : goal.returns
 returns c =
-    c.facing_slot-2.ensures ∙ offset-right _ _ _ _ _ _ c.wide_word-other.ensures.0 _ c.wide_word-2.ensures.0 c.if-slots-other.false c.if-is_left.false
+    c.facing_slot-2.ensures ∙ offset-right _ _ _ _ _ _ c.from-other.ensures _ c.from-2.ensures c.if-slots-other.false c.if-is_left.false

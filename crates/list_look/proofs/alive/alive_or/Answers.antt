@@ -5,7 +5,7 @@ use Rattle.list_look.proofs.alive.alive_or.Goals as goal
 
 pub returns-then-not-is_alive : goal.returns-then-not-is_alive
 returns-then-not-is_alive c =
-    c.no_places.ensures ∙ ends _ _ (sym c.is_alive.ensures ∙ c.if-not-is_alive.true)
+    ends _ _ (sym c.is_alive.ensures ∙ c.if-not-is_alive.true)
 
 pub returns : goal.returns
 returns c =

@@ -1,7 +1,4 @@
-use mathlib.Core.Bool.{true}
-use Prim.Native.Nat.{◌-◌}
 use native.Mathlib.Omega.{arith}
-use borrow.Author.Rules.{rules}
 use Rattle.list_look.proofs.StepLaws.{many_dead, one_dead, all-alive, none_dead, more-alive}
 use Rattle.list_look.proofs.alive.is_alive.Goals as goal
 
@@ -11,7 +8,7 @@ returns-then-domains-choices c =
 
 pub loop-choice-init : goal.loop-choice-init
 loop-choice-init c =
-    (search rules, search rules, none_dead _)
+    none_dead _
 
 pub returns-then-domains-choice-eq0 : goal.returns-then-domains-choice-eq0
 returns-then-domains-choice-eq0 c =
@@ -19,8 +16,8 @@ returns-then-domains-choice-eq0 c =
 
 pub loop-choice-preserved : goal.loop-choice-preserved
 loop-choice-preserved c =
-    (omega arith, c.loop-choice.invariant.1, more-alive _ _ c.loop-choice.invariant.2 c.if-domains-choice-eq0.false)
+    more-alive _ _ c.loop-choice.invariant c.if-domains-choice-eq0.false
 
 pub returns : goal.returns
 returns c =
-    all-alive _ _ _ c.loop-choice.invariant.0 (omega arith) c.loop-choice.invariant.2
+    all-alive _ _ c.loop-choice.choice (omega arith) (omega arith) c.loop-choice.invariant

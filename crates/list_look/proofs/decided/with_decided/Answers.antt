@@ -13,4 +13,4 @@ returns-then-choice-gt64 c =
 
 pub returns : goal.returns
 returns c =
-    now-decided _ _ c.args.domains _ c.if-choice-eq0.false c.slot_of-place.ensures c.wide.ensures.0 c.place_number.ensures c.only.ensures
+    now-decided _ _ c.args.domains _ c.if-choice-eq0.false c.slot_of-place.ensures c.from.ensures c.place_number.ensures c.only.ensures

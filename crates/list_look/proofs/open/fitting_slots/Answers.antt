@@ -1,5 +1,4 @@
 use mathlib.Core.Path.{◌≡◌}
-use Prim.Native.Nat.{◌-◌}
 use native.Mathlib.Omega.{arith}
 use Rattle.base_choice_sets.proofs.SetLaws.{set-start, set-step}
 use Rattle.list_look.proofs.SlotLaws.{none-fit}
@@ -11,7 +10,7 @@ returns-then-choosers-least c =
 
 pub loop-slot-init : goal.loop-slot-init
 loop-slot-init c =
-    (omega arith, set-start _)
+    set-start _
 
 pub slot_fits-fits-requires : goal.slot_fits-fits-requires
 slot_fits-fits-requires c =
@@ -19,8 +18,8 @@ slot_fits-fits-requires c =
 
 pub loop-slot-preserved : goal.loop-slot-preserved
 loop-slot-preserved c =
-    (omega (arith, c.loop-slot-test.true), set-step _ _ _ _ _ (omega (arith, c.loop-slot-test.true, c.requires)) c.loop-slot.invariant.1 c.slot_fits-fits.ensures c.with_if-found.ensures)
+    set-step _ _ _ _ _ (omega (arith, c.loop-slot-test.true, c.requires)) c.loop-slot.invariant c.slot_fits-fits.ensures c.with_if-found.ensures
 
 pub returns : goal.returns
 returns c =
-    let e : c.loop-slot.slot ≡ c.args.slots = omega (arith, c.loop-slot-test.false, c.loop-slot.invariant.0) in rw e at c.loop-slot.invariant.1
+    let e : c.loop-slot.slot ≡ c.args.slots = omega (arith, c.loop-slot-test.false) in rw e at c.loop-slot.invariant

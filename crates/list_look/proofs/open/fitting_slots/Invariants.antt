@@ -1,14 +1,9 @@
 -- The loop's invariant: the slots passed that fit.
 use mathlib.Core.Path.{◌≡◌}
-use Prim.Native.Nat.{◌-◌, ◌≤◌}
 use Rattle.base_choice_sets.specs.Sets.{set_of}
 use Rattle.list_look.specs.steps.Slots.{slot_fits}
 use Rattle.list_look.proofs.open.fitting_slots.Given as goal
 
 abbrev pub invariant-loop-slot : goal.invariant-loop-slot
 invariant-loop-slot l =
-    (l.slot ≤ l.slots) × (l.found ≡ set_of l.slot (slot_fits l.choosers l.least l.slot_min l.domain))
-
-abbrev pub decreases-loop-slot : goal.decreases-loop-slot
-decreases-loop-slot l =
-    l.slots - l.slot
+    l.found ≡ set_of l.slot (slot_fits l.choosers l.least l.slot_min l.domain)

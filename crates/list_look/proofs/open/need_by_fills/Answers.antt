@@ -1,5 +1,4 @@
 use mathlib.Core.Path.{◌≡◌}
-use Prim.Native.Nat.{◌-◌}
 use native.Mathlib.Omega.{arith}
 use Rattle.list_rule_tables.proofs.EnoughPlaces.{need-start}
 use Rattle.list_look.proofs.SlotLaws.{need-more}
@@ -7,20 +6,20 @@ use Rattle.list_look.proofs.open.need_by_fills.Goals as goal
 
 pub loop-slot-init : goal.loop-slot-init
 loop-slot-init c =
-    ((omega arith, omega arith), need-start _ _ _ _)
+    (omega arith, need-start _ _ _ _)
 
 pub lightest-need-requires : goal.lightest-need-requires
 lightest-need-requires c =
-    (c.requires.1.1, omega (arith, c.less.ensures, c.requires.1.0))
+    (c.requires.1.1, omega (arith, c.saturating_sub.ensures, c.requires.1.0))
 
 pub overflow_add-need : goal.overflow_add-need
 overflow_add-need c =
-    omega (arith, c.loop-slot.invariant.0.1, c.lightest-need.ensures.1, c.loop-slot-test.true, c.requires.0)
+    omega (arith, c.loop-slot.invariant.0, c.lightest-need.ensures.1, c.loop-slot-test.true, c.requires.0)
 
 pub loop-slot-preserved : goal.loop-slot-preserved
 loop-slot-preserved c =
-    ((omega (arith, c.loop-slot-test.true), omega (arith, c.loop-slot.invariant.0.1, c.lightest-need.ensures.1)), need-more _ _ _ _ _ _ _ _ _ c.requires.0 c.loop-slot-test.true c.loop-slot.invariant.1 c.less.ensures c.lightest-need.ensures.0)
+    (omega (arith, c.loop-slot.invariant.0, c.lightest-need.ensures.1), need-more _ _ _ _ _ _ _ _ _ c.requires.0 c.loop-slot-test.true c.loop-slot.invariant.1 c.saturating_sub.ensures c.lightest-need.ensures.0)
 
 pub returns : goal.returns
 returns c =
-    let e : c.loop-slot.slot ≡ c.args.slots = omega (arith, c.loop-slot-test.false, c.loop-slot.invariant.0.0) in (rw e at c.loop-slot.invariant.1, omega (arith, e, c.loop-slot.invariant.0.1, c.requires.0))
+    let e : c.loop-slot.slot ≡ c.args.slots = omega (arith, c.loop-slot-test.false) in (rw e at c.loop-slot.invariant.1, omega (arith, e, c.loop-slot.invariant.0, c.requires.0))

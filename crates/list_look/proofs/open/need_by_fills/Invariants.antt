@@ -1,14 +1,10 @@
 -- The loop's invariant: what the lacks of the slots passed weigh.
 use mathlib.Core.Path.{◌≡◌}
-use Prim.Native.Nat.{◌-◌, ◌*◌, ◌≤◌}
+use Prim.Native.Nat.{◌*◌, ◌≤◌}
 use Rattle.list_tables.specs.steps.Tables.{entry_at}
 use Rattle.list_rule_tables.specs.steps.Enough.{lacks_at, need_of}
 use Rattle.list_look.proofs.open.need_by_fills.Given as goal
 
 abbrev pub invariant-loop-slot : goal.invariant-loop-slot
 invariant-loop-slot l =
-    ((l.slot ≤ l.slots) × (l.need ≤ l.slot * 65535)) × (l.need ≡ need_of (entry_at l.tables) l.slot 1 l.from (lacks_at l.choosers l.slots l.slot_max))
-
-abbrev pub decreases-loop-slot : goal.decreases-loop-slot
-decreases-loop-slot l =
-    l.slots - l.slot
+    (l.need ≤ l.slot * 65535) × (l.need ≡ need_of (entry_at l.tables) l.slot 1 l.from (lacks_at l.choosers l.slots l.slot_max))

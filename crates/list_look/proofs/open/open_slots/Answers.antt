@@ -1,5 +1,4 @@
 use mathlib.Core.Path.{◌≡◌}
-use Prim.Native.Nat.{◌-◌}
 use native.Mathlib.Omega.{arith}
 use Rattle.base_choice_sets.proofs.SetLaws.{set-start, set-step}
 use Rattle.list_look.proofs.SlotLaws.{none_open}
@@ -11,7 +10,7 @@ returns-then-choosers-least c =
 
 pub loop-slot-init : goal.loop-slot-init
 loop-slot-init c =
-    (omega arith, set-start _)
+    set-start _
 
 pub slot_open-inside-requires : goal.slot_open-inside-requires
 slot_open-inside-requires c =
@@ -19,8 +18,8 @@ slot_open-inside-requires c =
 
 pub loop-slot-preserved : goal.loop-slot-preserved
 loop-slot-preserved c =
-    (omega (arith, c.loop-slot-test.true), set-step _ _ _ _ _ (omega (arith, c.loop-slot-test.true, c.requires.0.0.0)) c.loop-slot.invariant.1 c.slot_open-inside.ensures c.with_if-found.ensures)
+    set-step _ _ _ _ _ (omega (arith, c.loop-slot-test.true, c.requires.0.0.0)) c.loop-slot.invariant c.slot_open-inside.ensures c.with_if-found.ensures
 
 pub returns : goal.returns
 returns c =
-    let e : c.loop-slot.slot ≡ c.args.slots = omega (arith, c.loop-slot-test.false, c.loop-slot.invariant.0) in rw e at c.loop-slot.invariant.1
+    let e : c.loop-slot.slot ≡ c.args.slots = omega (arith, c.loop-slot-test.false) in rw e at c.loop-slot.invariant

@@ -1,6 +1,5 @@
 -- The loop's invariant: the slots passed that are open.
 use mathlib.Core.Path.{◌≡◌}
-use Prim.Native.Nat.{◌-◌, ◌≤◌}
 use Rattle.base_choice_sets.specs.Sets.{set_of}
 use Rattle.list_tables.specs.steps.Tables.{entry_at}
 use Rattle.list_look.specs.steps.Slots.{slot_open}
@@ -8,8 +7,4 @@ use Rattle.list_look.proofs.open.open_slots.Given as goal
 
 abbrev pub invariant-loop-slot : goal.invariant-loop-slot
 invariant-loop-slot l =
-    (l.slot ≤ l.slots) × (l.found ≡ set_of l.slot (slot_open (entry_at l.tables) l.choosers l.from l.slot_max l.least l.slot_min l.most l.need l.spare l.domain))
-
-abbrev pub decreases-loop-slot : goal.decreases-loop-slot
-decreases-loop-slot l =
-    l.slots - l.slot
+    l.found ≡ set_of l.slot (slot_open (entry_at l.tables) l.choosers l.from l.slot_max l.least l.slot_min l.most l.need l.spare l.domain)

@@ -6,4 +6,4 @@ use Rattle.list_look.proofs.open.weight_of.Goals as goal
 
 pub returns : goal.returns
 returns c =
-    (c.wide_word.ensures.0 ∙ weight_in _ 1 _ (omega arith) c.requires, c.wide_word.ensures.1)
+    (c.from.ensures ∙ weight_in _ 1 _ (omega arith) c.requires, omega arith)

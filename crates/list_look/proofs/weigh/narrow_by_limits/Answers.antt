@@ -4,7 +4,7 @@ use Rattle.list_look.proofs.weigh.narrow_by_limits.Goals as goal
 
 pub returns-then-bounds : goal.returns-then-bounds
 returns-then-bounds c =
-    limits-broken _ _ _ _ _ _ _ c.bounds_of-bounds.ensures.broken_value c.if-bounds.true c.no_places.ensures
+    limits-broken _ _ _ _ _ _ _ c.bounds_of-bounds.ensures.broken_value c.if-bounds.true
 
 pub returns : goal.returns
 returns c =

@@ -8,4 +8,4 @@ returns-then-has_limit c =
 
 pub returns : goal.returns
 returns c =
-    weigh_unlimited _ _ _ _ _ c.free_of-free.ensures c.lacks_of-lacks.ensures c.has_limit.ensures c.if-has_limit.false c.figures-none.ensures c.narrow_by_tables.ensures
+    weigh_unlimited _ _ _ _ _ c.free_of-free.ensures c.lacks_of-lacks.ensures c.has_limit.ensures c.if-has_limit.false c.narrow_by_tables.ensures

@@ -8,8 +8,8 @@ returns-then-place-eq-OMITTED c =
 
 pub returns-then-high-low : goal.returns-then-high-low
 returns-then-high-low c =
-    asked-below _ _ _ _ _ _ c.wide_word.ensures.0 c.wide_word-2.ensures.0 c.wide_word-low.ensures.0 c.if-place-eq-OMITTED.false c.if-high-low.true
+    asked-below _ _ _ _ _ _ c.from.ensures c.from-2.ensures c.from-low.ensures c.if-place-eq-OMITTED.false c.if-high-low.true
 
 pub returns : goal.returns
 returns c =
-    asked-slot _ _ _ _ _ _ c.wide_word.ensures.0 c.wide_word-2.ensures.0 c.wide_word-low.ensures.0 c.if-place-eq-OMITTED.false _ c.if-high-low.false c.only.ensures
+    asked-slot _ _ _ _ _ _ c.from.ensures c.from-2.ensures c.from-low.ensures c.if-place-eq-OMITTED.false _ c.if-high-low.false c.only.ensures

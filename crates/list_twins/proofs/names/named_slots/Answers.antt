@@ -1,16 +1,15 @@
-use Prim.Native.Nat.{◌-◌}
-use borrow.Author.Rules.{rules}
+use native.Mathlib.Omega.{arith}
 use Rattle.list_twins.proofs.NameLaws.{named_start, named_step, named-done}
 use Rattle.list_twins.proofs.names.named_slots.Goals as goal
 
-pub loop-i-init : goal.loop-i-init
-loop-i-init c =
-    (search rules, named_start _)
+pub loop-number-init : goal.loop-number-init
+loop-number-init c =
+    named_start _
 
-pub loop-i-preserved : goal.loop-i-preserved
-loop-i-preserved c =
-    (search rules, named_step _ _ _ _ _ _ c.loop-i-test.true c.loop-i.invariant.1 c.names_of.ensures c.either-names.ensures)
+pub loop-number-preserved : goal.loop-number-preserved
+loop-number-preserved c =
+    named_step _ _ _ _ _ _ (omega arith) c.loop-number.invariant c.names_of.ensures c.either-names.ensures
 
 pub returns : goal.returns
 returns c =
-    named-done _ _ _ _ c.loop-i.invariant.0 c.loop-i-test.false c.loop-i.invariant.1
+    named-done _ _ c.loop-number.number-index _ (omega arith) (omega arith) c.loop-number.invariant

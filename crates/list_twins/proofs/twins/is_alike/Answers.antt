@@ -13,4 +13,4 @@ returns-then-not-same_sum c =
 
 pub returns : goal.returns
 returns c =
-    alike-by _ _ _ _ _ _ _ _ _ _ (sym c.member.ensures ∙ c.if-member.false) c.same_sum.ensures c.if-not-same_sum.false c.smaller.ensures c.smaller-2.ensures c.same_sum-2.ensures
+    alike-by _ _ _ _ _ _ _ _ _ _ (sym c.member.ensures ∙ c.if-member.false) c.same_sum.ensures c.if-not-same_sum.false c.min.ensures c.min-2.ensures c.same_sum-2.ensures

@@ -2,4 +2,4 @@
 use Rattle.list_walk.proofs.next.next_after.Goals as goal
 
 pub returns : goal.returns
-returns c = rw c.less.ensures at c.next_open.ensures
+returns c = rw c.saturating_sub.ensures at c.next_open.ensures

@@ -1,4 +1,5 @@
 -- A slot of the day takes the amount; nothing else changes.
+use Rattle.std.proofs.Common.{refl}
 use Rattle.list_walk.proofs.StandLaws.{added-past, added_out, added_in}
 use Rattle.list_walk.proofs.stand.add_at.Goals as goal
 
@@ -12,4 +13,4 @@ returns-then-slots-place c =
 
 pub returns : goal.returns
 returns c =
-    added_in c.args.slots c.args.place c.args.amount c.args.sums.now c.if-slots-gt24.false c.if-slots-place.false c.wrapping_add_usize.ensures.value
+    added_in c.args.slots c.args.place c.args.amount c.args.sums.now c.if-slots-gt24.false c.if-slots-place.false refl

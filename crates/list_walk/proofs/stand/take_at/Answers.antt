@@ -12,4 +12,4 @@ returns-then-slots-place c =
 
 pub returns : goal.returns
 returns c =
-    taken_in c.args.slots c.args.place c.args.amount c.args.sums.now c.if-slots-gt24.false c.if-slots-place.false c.less.ensures
+    taken_in c.args.slots c.args.place c.args.amount c.args.sums.now c.if-slots-gt24.false c.if-slots-place.false c.saturating_sub.ensures
