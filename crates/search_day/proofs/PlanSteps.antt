@@ -39,7 +39,7 @@ use Rattle.search_day.specs.declared.plan.PlanCounts.{PlanCounts}
 
 -- ---- full pools
 
-pools-full : (starts lengths numbers : List ℕ) → length starts ≡ 64 → length lengths ≡ 64 → length numbers ≡ 10240 → map_full (map_of starts lengths numbers) ≡ true
+pub pools-full : (starts lengths numbers : List ℕ) → length starts ≡ 64 → length lengths ≡ 64 → length numbers ≡ 10240 → map_full (map_of starts lengths numbers) ≡ true
 unfolding map_full
 pools-full starts lengths numbers a b c = and_both _ _ (and_both _ _ (eq-eqb _ _ a) (eq-eqb _ _ b)) (eq-eqb _ _ c)
 
