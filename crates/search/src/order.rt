@@ -4,21 +4,10 @@ ghost use Rattle.search_map.specs.Map.{map_of, looked_up};
 ghost use Rattle.search_order.specs.Order.{pass_order};
 ghost use Rattle.search.specs.steps.LevelPass.{rows_found};
 
-use base_pools::zeros::{bytes, words};
 use search_map::map::rows_of;
 use search_order::order_pass;
 
-// A number as two bytes hold it: 65,535 for more.
-fn small(number: usize) -> u16
-    ensures { result ≡ min number 65535 }
-{
-    if 65535 < number {
-        return 65535;
-    }
-    number as u16
-}
-
-// How many rows are looked up for a choice.
+// How many rows are looked up for a choice, as two bytes hold it: 65,535 for more.
 fn count_of<'a>(
     starts: &[u16],
     lengths: &[u16],
@@ -29,7 +18,9 @@ fn count_of<'a>(
     ensures { let map = map_of starts.now lengths.now numbers.now in
         result ≡ min (length (looked_up map whole.now choice)) 65535 }
 {
-    small(rows_of(starts, lengths, numbers, whole, choice).len())
+    rows_of(starts, lengths, numbers, whole, choice)
+        .len()
+        .min(65535) as u16
 }
 
 // Each choice's 'number of looked-up rows'.
@@ -42,23 +33,11 @@ fn count_rows<'a>(
     ensures { let map = map_of starts.now lengths.now numbers.now in
         result ≡ rows_found map whole.now }
 {
-    let mut counted = words();
-    let mut choice = 0;
-    while choice < 64 {
+    let mut counted = [0u16; 64];
+    for choice in 0..64 {
         counted[choice] = count_of(starts, lengths, numbers, whole, choice);
-        choice += 1;
     }
     counted
-}
-
-// As many choices as an order has places for: 64 at most.
-pub(crate) fn most_choices(choices: usize) -> usize
-    ensures { result ≡ min choices 64 }
-{
-    if 64 < choices {
-        return 64;
-    }
-    choices
 }
 
 // The order of a pass, in the first C of 64 places.
@@ -78,7 +57,7 @@ pub(crate) fn order_at<'a>(
         (length result ≡ 64) × (take choices result ≡ ordered) }
 {
     let counted = count_rows(starts, lengths, numbers, whole);
-    let mut order = bytes();
+    let mut order = [0u8; 64];
     order_pass(orders, pass, &counted, &mut order[..choices]);
     order
 }

@@ -6,9 +6,8 @@ ghost use Rattle.search_map.specs.Map.{map_of};
 ghost use Rattle.search_pass.specs.steps.Call.{leaves, passed_tells, pass_leaves};
 ghost use Rattle.search.specs.steps.LevelPass.{lent_by};
 
-use super::order::{most_choices, order_at};
+use super::order::order_at;
 use super::sets::sets_at;
-use base_pools::zeros;
 use day_rows::check::Counts;
 use search_pass::pass::{Passed, run_pass};
 
@@ -44,9 +43,10 @@ pub fn pass_at<'a>(
         levels.now count sets draws.now limit pass in
         leaves (passed_tells result) plan.new ≡ pass_leaves lent turns draw plan.old }
 {
-    let mut list = zeros::numbers();
+    let mut list = [0u64; 1024];
     let sets = sets_at(levels, limit, masks, set_levels, count, &mut list);
-    let choices = most_choices(counts.choices);
+    // An order has 64 places.
+    let choices = counts.choices.min(64);
     let order = order_at(choices, orders, pass, starts, lengths, numbers, whole);
     run_pass(
         counts,

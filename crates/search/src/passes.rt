@@ -52,6 +52,7 @@ pub(crate) fn passes_from<'a>(
     let mut left = settings.total_budget;
     let mut draw = 0;
     let mut pass = 0;
+    // How a pass ends decides whether there is a next one, so that no count runs along the passes.
     loop {
         let last = levels.len() <= above;
         let turns = turns_of(last, left, settings.pass_budget);

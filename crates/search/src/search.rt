@@ -7,7 +7,6 @@ ghost use Rattle.search_meaning.specs.Given.{given_of};
 ghost use Rattle.search_meaning.specs.Calls.{searched_tells, search_of};
 
 use super::passes::passes_from;
-use base_pools::zeros;
 use day_rows::check::Checked;
 use day_rows::lists::last_level;
 use search_meaning::answer::Searched;
@@ -69,8 +68,8 @@ pub fn search<'a>(
     if let Checked::Refused(why) = judged {
         return Searched::Refused(why);
     }
-    let mut masks = zeros::numbers();
-    let mut set_levels = zeros::row_words();
+    let mut masks = [0u64; 1024];
+    let mut set_levels = [0u16; 1024];
     let analysis = settings.analysis;
     let analyzed = analyze(
         day_counts(counts),

@@ -6,7 +6,7 @@ use Prim.Native.Nat.{ℕ, ◌≤◌}
 use native.Mathlib.Omega.{arith}
 use borrow.Author.Tests.{eq-eqb, le-leb, leb-true}
 use lib.Dec.{leb}
-use lib.ListN.{length}
+use lib.ListN.{length, replicate, length-replicate}
 use Rattle.base_lists.specs.Pool.{pad}
 use Rattle.base_lists.proofs.Below.{and_both}
 use Rattle.base_lists.proofs.Pad.{length-pad}
@@ -42,6 +42,10 @@ use Rattle.search_day.specs.declared.plan.PlanCounts.{PlanCounts}
 pub pools-full : (starts lengths numbers : List ℕ) → length starts ≡ 64 → length lengths ≡ 64 → length numbers ≡ 10240 → map_full (map_of starts lengths numbers) ≡ true
 unfolding map_full
 pools-full starts lengths numbers a b c = and_both _ _ (and_both _ _ (eq-eqb _ _ a) (eq-eqb _ _ b)) (eq-eqb _ _ c)
+
+-- so are pools of zeros
+pub zeros_full : map_full (map_of (replicate 64 0) (replicate 64 0) (replicate 10240 0)) ≡ true
+zeros_full = pools-full (replicate 64 0) (replicate 64 0) (replicate 10240 0) (length-replicate {A = ℕ} 64 0) (length-replicate {A = ℕ} 64 0) (length-replicate {A = ℕ} 10240 0)
 
 module _ (rows : List ℕ) (choices : ℕ) where
   pools-over : leb (length (own_numbers rows choices)) 10240 ≡ false → in_pools [] [] [] ≡ own_pools rows choices

@@ -9,7 +9,6 @@ ghost use Rattle.search_day.specs.Planning.{with_numbers, given_with, given_own,
 
 use super::settings::full_by;
 use super::whole::{count_up, whole_length};
-use base_pools::zeros::{map_numbers, words};
 use day_rows::check::Checked;
 use search::search::search;
 use search_map::own_map::{Mapped, own_map};
@@ -57,9 +56,9 @@ fn judge_first(
         levels.now preferences.now rows.now [] [] in
         checked_tells result ≡ day_judged given plan.now }
 {
-    let starts = words();
-    let lengths = words();
-    let numbers = map_numbers();
+    let starts = [0u16; 64];
+    let lengths = [0u16; 64];
+    let numbers = [0u16; 10240];
     let size = whole_length(rows.len());
     let whole = count_up(size);
     judge_day(
@@ -108,9 +107,9 @@ fn own_search(
         (outcome (searched_tells result) plan.new ≡ answer)
         × AnswerSays given total_budget plan.new result }
 {
-    let mut starts = words();
-    let mut lengths = words();
-    let mut numbers = map_numbers();
+    let mut starts = [0u16; 64];
+    let mut lengths = [0u16; 64];
+    let mut numbers = [0u16; 10240];
     let mapped = own_map(
         row_counts(with_numbers(counts, 0)),
         rows,

@@ -2,8 +2,6 @@
 ghost use Rattle.std.specs.Prelude.{◌≡◌, min, ◌≤◌, length, take};
 ghost use Rattle.base_lists.specs.Flat.{list_below};
 
-use base_pools::zeros::row_words;
-
 // The most rows, which is as many as the whole list has room for.
 const MOST_ROWS: usize = 1024;
 
@@ -11,10 +9,7 @@ const MOST_ROWS: usize = 1024;
 pub(crate) fn whole_length(rows: usize) -> usize
     ensures { result ≡ min rows 1024 }
 {
-    if rows < MOST_ROWS {
-        return rows;
-    }
-    MOST_ROWS
+    rows.min(MOST_ROWS)
 }
 
 // The whole list, 0, 1, 2 .., in the first places of a pool.
@@ -22,11 +17,9 @@ pub(crate) fn count_up(size: usize) -> [u16; 1024]
     requires { size ≤ 1024 }
     ensures { (length result ≡ 1024) × (take size result ≡ list_below size (λ i. i)) }
 {
-    let mut whole = row_words();
-    let mut i = 0;
-    while i < size {
+    let mut whole = [0u16; 1024];
+    for i in 0..size {
         whole[i] = i as u16;
-        i += 1;
     }
     whole
 }

@@ -25,7 +25,7 @@ module _ (levels : List ℕ) (limit : ℕ) where
   pub levels-on : (i : ℕ) → i < length levels → get_or levels i 0 ≤ limit → LevelsTo i → LevelsTo (i + 1)
   levels-on i h a f = (omega arith, sym (first_passes (λ level. leb level limit) levels i 0 h (le-leb _ _ a)) ∙ f.1)
 
-  pub levels-none : (i : ℕ) → length levels ≤ i → LevelsTo i → i ≡ first_failing (λ level. leb level limit) levels
+  pub levels-none : (i : ℕ) → length levels ≤ i → LevelsTo i → length levels ≡ first_failing (λ level. leb level limit) levels
   unfolding first_failing
   levels-none i h f =
       let z : first_failing (λ level. leb level limit) (drop i levels) ≡ 0 = rw (drop_of_length-le levels {i = i} h) in

@@ -3,7 +3,6 @@ ghost use Rattle.std.specs.Prelude.{◌≡◌, cond, ◌-◌, min};
 ghost use Rattle.search_pass.specs.steps.Call.{passed_tells};
 ghost use Rattle.search_levels.specs.steps.Step.{step_tells, after_found, after_without, after_wanting, step_of};
 
-use base_pools::number::less_u64;
 use search_meaning::answer::Searched;
 use search_pass::pass::Passed;
 
@@ -14,16 +13,6 @@ pub enum Step {
     On { left: u64, draw: usize },
 }
 
-// The smaller of two numbers of turns.
-fn smaller(left: u64, budget: u64) -> u64
-    ensures { result ≡ min left budget }
-{
-    if budget < left {
-        return budget;
-    }
-    left
-}
-
 // The turns of a pass: 'A pass below the last level also ends when it needs a turn past the pass budget', the
 // last has every turn that is left.
 pub fn turns_of(last: bool, left: u64, budget: u64) -> u64
@@ -32,21 +21,21 @@ pub fn turns_of(last: bool, left: u64, budget: u64) -> u64
     if last {
         return left;
     }
-    smaller(left, budget)
+    left.min(budget)
 }
 
 // The turns left of those before a pass that spared some of its own.
 fn left_after(left: u64, turns: u64, spared: u64) -> u64
     ensures { result ≡ left - (turns - spared) }
 {
-    less_u64(left, less_u64(turns, spared))
+    left.saturating_sub(turns.saturating_sub(spared))
 }
 
 // What follows a pass that found a plan: the call's answer.
 fn after_found(left: u64, turns: u64, total: u64, passes: usize, limit: u16, spared: u64) -> Step
     ensures { step_tells result ≡ after_found left turns total passes limit spared }
 {
-    let used = less_u64(total, left_after(left, turns, spared));
+    let used = total.saturating_sub(left_after(left, turns, spared));
     Step::Answer(Searched::Found {
         turns: used,
         passes,
@@ -70,7 +59,7 @@ fn after_without(
 {
     let rest = left_after(left, turns, spared);
     if last {
-        let used = less_u64(total, rest);
+        let used = total.saturating_sub(rest);
         return Step::Answer(Searched::None {
             turns: used,
             passes,
@@ -93,7 +82,7 @@ fn after_wanting(left: u64, turns: u64, total: u64, passes: usize, limit: u16, d
         });
     }
     Step::On {
-        left: less_u64(left, turns),
+        left: left.saturating_sub(turns),
         draw,
     }
 }

@@ -7,8 +7,6 @@ ghost use Rattle.search_rules.specs.Pass.{lent_of, pass_of};
 ghost use Rattle.search_pass.specs.steps.Call.{leaves, passed_tells, left_by, pass_fits, pass_leaves};
 ghost use Rattle.search_pass.specs.steps.Taken.{Taken, part_of, Within};
 
-use base_pools::number::wide_amount;
-use base_pools::wide;
 use day_rows::check::Counts;
 use search_order::is_permutation;
 use search_turn::depth::open_if_new;
@@ -32,29 +30,14 @@ fn all_max(order: &[u8], maxs: &[u16]) -> u32
     ensures { result ≡ sum_over (λ choice. get_or maxs.now choice 0) order.now }
 {
     let mut sum = 0;
-    let mut i = 0;
-    while i < order.len() {
-        sum += wide_amount(maxs[wide(order[i])]);
-        i += 1;
+    for choice in order {
+        sum += u32::from(maxs[usize::from(*choice)]);
     }
     sum
 }
 
-// Room for the candidates of 65 depths, 25 each.
-fn no_candidates() -> [u8; 1625]
-    ensures { length result ≡ 1625 }
-{
-    [0u8; 1625]
-}
-
-// Room for a place of each of 65 depths: where its candidates go on, or where they end.
-fn no_places() -> [usize; 65]
-    ensures { length result ≡ 65 }
-{
-    [0usize; 65]
-}
-
 // The walk of a pass whose day and order are taken: turns until a plan, an end, or a turn that isn't there.
+// There is room for 25 candidates of each of 65 depths, and for where they go on and end.
 fn walk_pass<'a>(
     counts: Counts,
     full: bool,
@@ -85,11 +68,12 @@ fn walk_pass<'a>(
         leaves (passed_tells result) plan.new ≡ left_by lent plan.old out }
 {
     let mut state = SearchState::new(all_max(order, maxs));
-    let mut candidates = no_candidates();
-    let mut next = no_places();
-    let mut end = no_places();
+    let mut candidates = [0u8; 1625];
+    let mut next = [0usize; 65];
+    let mut end = [0usize; 65];
     let mut draw = first_draw;
     let mut left = budget;
+    // Turns go down and back, so that no count runs along them.
     loop {
         match sight_at(
             counts,

@@ -26,11 +26,11 @@ depth_of choice min max optional last remaining draw =
     record { choice = choice; min = min; max = max; optional = optional; last = last; remaining = remaining; draw = draw }
 
 module _ (counts : Counts) (mins maxs optional order draws : List ℕ) where
-  pub depth_is : (depth draw remaining byte choice min max flag drawn : ℕ) (last : Bool) → byte ≡ get_or order depth 0 → choice ≡ byte
+  pub depth_is : (depth draw remaining choice min max flag drawn : ℕ) (last : Bool) → choice ≡ get_or order depth 0
       → min ≡ get_or mins choice 0 → max ≡ get_or maxs choice 0 → flag ≡ get_or optional choice 0 → last ≡ eqb (suc depth) counts.choices → drawn ≡ get_or draws draw 0
       → depth_of choice min max flag last remaining drawn ≡ depth_from (part_of counts mins maxs optional order draws) depth draw remaining
   unfolding depth_from choice_at
-  depth_is depth draw remaining byte choice min max flag drawn last eb ec em ex ef el ed = rw (em, ex, ef, el, ed, ec, eb)
+  depth_is depth draw remaining choice min max flag drawn last ec em ex ef el ed = rw (em, ex, ef, el, ed, ec)
 
 -- ---- what is asked for
 

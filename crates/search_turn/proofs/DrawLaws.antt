@@ -1,4 +1,4 @@
--- Entries past a list's end, and the draws one after the other.
+-- The draws one after the other.
 use mathlib.Core.Path.{◌≡◌, sym, ap}
 use mathlib.Core.Bool.{false}
 use mathlib.Core.List.{List}
@@ -6,14 +6,10 @@ use Prim.Native.Nat.{ℕ, suc, ◌+◌, ◌≤◌, ◌<◌}
 use native.Mathlib.Omega.{arith}
 use borrow.Author.Tests.{lt-ltb, le-ltb, ne_eqb}
 use lib.Dec.{eqb}
-use lib.ListN.{length, get_or, get_or-eq_default}
+use lib.ListN.{length}
 use Rattle.search_rules.specs.Pass.{next_draw}
 
 module _ (list : List ℕ) (at : ℕ) where
-  -- an entry past the end is 0
-  pub past_end : length list ≤ at → 0 ≡ get_or list at 0
-  past_end h = sym (get_or-eq_default list 0 h)
-
   pub next_past : length list ≤ at → 0 ≡ next_draw list at
   unfolding next_draw
   next_past h = rw (le-ltb (suc at) (length list) (omega arith))

@@ -1,26 +1,23 @@
 -- Sums, decisions and steps, for each way through the code.
-use mathlib.Core.Path.{◌≡◌, refl, sym, ap}
-use mathlib.Core.Bool.{Bool, true, false}
+use mathlib.Core.Path.{◌≡◌, refl, ap}
+use mathlib.Core.Bool.{Bool, true, false, cond}
 use mathlib.Core.List.{List}
-use Prim.Native.Nat.{ℕ, ◌+◌, ◌-◌, ◌≤◌, ◌<◌, ◌^◌}
-use borrow.Author.Tests.{lt-ltb, le-ltb, le-leb, lt-leb, eq-eqb, ne_eqb}
-use lib.Dec.{leb}
-use lib.ListN.{length, get_or, set, get_or-eq_default}
+use Prim.Native.Nat.{ℕ, ◌+◌, ◌-◌, ◌≤◌, ◌<◌, ◌^◌, min}
+use native.Mathlib.Omega.{arith}
+use borrow.Author.Tests.{ltb-true, ltb-false, le-leb, lt-leb, eq-eqb, ne_eqb}
+use lib.Dec.{ltb, leb}
+use lib.ListN.{get_or, set}
 use Rattle.search_turn.specs.declared.state.SearchState.{SearchState}
 use Rattle.search_turn.specs.steps.State.{more_of, more_at, less_at, put_at, slot_at, with_depth, decided_of, cleared_of, down_of, back_of}
 
--- an entry past the end is 0
-pub past_end : (list : List ℕ) (at : ℕ) → length list ≤ at → 0 ≡ get_or list at 0
-past_end list at h = sym (get_or-eq_default list 0 h)
-
-module _ (sum amount : ℕ) where
-  pub more-over : 2 ^ 32 - 1 - sum < amount → 2 ^ 32 - 1 ≡ more_of sum amount
-  unfolding more_of
-  more-over h = rw (lt-ltb _ _ h)
-
-  pub more-whole : amount ≤ 2 ^ 32 - 1 - sum → sum + amount ≡ more_of sum amount
-  unfolding more_of
-  more-whole h = rw (le-ltb _ _ h)
+-- a sum that saturates
+pub more_is : (sum amount : ℕ) → sum < 2 ^ 32 → min (sum + amount) (2 ^ 32 - 1) ≡ more_of sum amount
+unfolding more_of
+more_is sum amount h = go (ltb (2 ^ 32 - 1 - sum) amount) refl
+  where
+    go : (over : Bool) → ltb (2 ^ 32 - 1 - sum) amount ≡ over → min (sum + amount) (2 ^ 32 - 1) ≡ cond over (2 ^ 32 - 1) (sum + amount)
+    go true e = omega (arith, ltb-true _ _ e)
+    go false e = omega (arith, ltb-false _ _ e)
 
 module _ (sums : List ℕ) (slot amount : ℕ) where
   pub more-past : 24 ≤ slot → sums ≡ more_at sums slot amount

@@ -1,49 +1,31 @@
 // A choice's min and max as wide as the sums; sums and decisions that are changed where they lie.
 ghost use Rattle.std.specs.Prelude.{◌≡◌, ◌-◌, get_or};
-ghost use Rattle.search_turn.specs.steps.State.{more_of, more_at, less_at, put_at, slot_at};
+ghost use Rattle.search_turn.specs.steps.State.{more_at, less_at, put_at, slot_at};
 
-use base_pools::number::{less_u32, wide_amount};
-use base_pools::wide;
 use search_candidates::decision::UNDECIDED;
 
 // A choice's min or max; 0 past the list.
 pub(crate) fn amount_at(amounts: &[u16], choice: usize) -> u32
     ensures { result ≡ get_or amounts.now choice 0 }
 {
-    if amounts.len() <= choice {
-        return 0;
-    }
-    wide_amount(amounts[choice])
+    u32::from(amounts.get(choice).copied().unwrap_or(0))
 }
 
 // The choice at a depth; 0 past the order.
 pub(crate) fn choice_at(order: &[u8], depth: usize) -> usize
     ensures { result ≡ get_or order.now depth 0 }
 {
-    if order.len() <= depth {
-        return 0;
-    }
-    wide(order[depth])
+    usize::from(order.get(depth).copied().unwrap_or(0))
 }
 
-// A sum with an amount more, as much as 32 bits hold.
-pub(crate) fn more(sum: u32, amount: u32) -> u32
-    ensures { result ≡ more_of sum amount }
-{
-    if 4_294_967_295 - sum < amount {
-        return 4_294_967_295;
-    }
-    sum + amount
-}
-
-// A slot's sum with an amount more; past the slots nothing is done.
+// A slot's sum with an amount more, as much as 32 bits hold; past the slots nothing is done.
 pub(crate) fn add_at(sums: &mut [u32; 24], slot: usize, amount: u32)
     ensures { sums.new ≡ more_at sums.old slot amount }
 {
     if 24 <= slot {
         return;
     }
-    sums[slot] = more(sums[slot], amount);
+    sums[slot] = sums[slot].saturating_add(amount);
 }
 
 // A slot's sum with an amount less; past the slots nothing is done.
@@ -53,7 +35,7 @@ pub(crate) fn take_at(sums: &mut [u32; 24], slot: usize, amount: u32)
     if 24 <= slot {
         return;
     }
-    sums[slot] = less_u32(sums[slot], amount);
+    sums[slot] = sums[slot].saturating_sub(amount);
 }
 
 // The choice stands at the place, whose slot is given back; past the choices nothing is done, and 24 is no
@@ -66,7 +48,7 @@ pub(crate) fn decide_at(decisions: &mut [u8; 64], choice: usize, place: u8) -> u
         return 24;
     }
     decisions[choice] = place;
-    wide(place)
+    usize::from(place)
 }
 
 // The choice is undecided again, and the slot in which it stood is given back; past the choices nothing is
@@ -80,5 +62,5 @@ pub(crate) fn clear_at(decisions: &mut [u8; 64], choice: usize) -> usize
     }
     let place = decisions[choice];
     decisions[choice] = UNDECIDED;
-    wide(place)
+    usize::from(place)
 }

@@ -1,32 +1,11 @@
 // A depth as its candidates are asked for.
-ghost use Rattle.std.specs.Prelude.{◌≡◌, suc, eqb, get_or};
+ghost use Rattle.std.specs.Prelude.{◌≡◌, suc, eqb};
 ghost use Rattle.search_turn.specs.steps.Opening.{part_of, depth_from};
 
-use super::draw::draw_at;
+use super::amount::choice_at;
 use base_pools::number::flag_of;
-use base_pools::wide;
 use day_rows::check::Counts;
 use search_candidates::bucket::Depth;
-
-// The choice at a depth, a byte of the order; 0 past the order.
-fn byte_at(bytes: &[u8], at: usize) -> u8
-    ensures { result ≡ get_or bytes.now at 0 }
-{
-    if bytes.len() <= at {
-        return 0;
-    }
-    bytes[at]
-}
-
-// A choice's min or max; 0 past the list.
-fn amount_at(amounts: &[u16], at: usize) -> u16
-    ensures { result ≡ get_or amounts.now at 0 }
-{
-    if amounts.len() <= at {
-        return 0;
-    }
-    amounts[at]
-}
 
 // Whether a depth is that of the last undecided choice.
 fn is_last(choices: usize, depth: usize) -> bool
@@ -38,7 +17,7 @@ fn is_last(choices: usize, depth: usize) -> bool
     depth + 1 == choices
 }
 
-// The choice of a depth with its own numbers, what remains and the draw.
+// The choice of a depth with its own numbers, what remains and the draw; an entry past its list's end is 0.
 pub(crate) fn depth_at(
     counts: Counts,
     mins: &[u16],
@@ -54,14 +33,14 @@ pub(crate) fn depth_at(
         order.now draws.now in
         result ≡ depth_from lent depth draw remaining }
 {
-    let choice = wide(byte_at(order, depth));
+    let choice = choice_at(order, depth);
     Depth {
         choice,
-        min: amount_at(mins, choice),
-        max: amount_at(maxs, choice),
+        min: mins.get(choice).copied().unwrap_or(0),
+        max: maxs.get(choice).copied().unwrap_or(0),
         optional: flag_of(optional, choice),
         last: is_last(counts.choices, depth),
         remaining,
-        draw: draw_at(draws, draw),
+        draw: draws.get(draw).copied().unwrap_or(0),
     }
 }

@@ -1,16 +1,6 @@
 // The draws, one after the other and round again.
-ghost use Rattle.std.specs.Prelude.{◌≡◌, cond, get_or};
+ghost use Rattle.std.specs.Prelude.{◌≡◌, cond};
 ghost use Rattle.search_rules.specs.Pass.{next_draw};
-
-// The draw at a place; 'none means 0'.
-pub(crate) fn draw_at(draws: &[u32], at: usize) -> u32
-    ensures { result ≡ get_or draws.now at 0 }
-{
-    if draws.len() <= at {
-        return 0;
-    }
-    draws[at]
-}
 
 // The place of the draw after one.
 fn next_draw(draws: &[u32], at: usize) -> usize

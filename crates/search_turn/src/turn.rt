@@ -2,9 +2,8 @@
 ghost use Rattle.std.specs.Prelude.{◌≡◌};
 ghost use Rattle.search_turn.specs.steps.State.{closes_at, turning, turn_of};
 
-use super::amount::{add_at, amount_at, choice_at, clear_at, decide_at, more, take_at};
+use super::amount::{add_at, amount_at, choice_at, clear_at, decide_at, take_at};
 use super::state::SearchState;
-use base_pools::number::less_u32;
 
 // Whether the pass ends: at depth 0 no candidate is left.
 pub fn closes(depth: usize, next: &[usize; 65], end: &[usize; 65]) -> bool
@@ -45,7 +44,7 @@ pub fn turned(
                 take_at(&mut after.sizes, slot, 1);
                 after.depth = depth - 1;
                 after.is_new = false;
-                after.remaining = more(after.remaining, max);
+                after.remaining = after.remaining.saturating_add(max);
             }
         } else if at < 1625 {
             next[depth] = at + 1;
@@ -57,7 +56,7 @@ pub fn turned(
             add_at(&mut after.sizes, slot, 1);
             after.depth = depth + 1;
             after.is_new = true;
-            after.remaining = less_u32(after.remaining, max);
+            after.remaining = after.remaining.saturating_sub(max);
         }
     }
     after

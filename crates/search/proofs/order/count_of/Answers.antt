@@ -6,4 +6,4 @@ use lib.ListN.{length}
 use Rattle.search.proofs.order.count_of.Goals as goal
 
 pub returns : goal.returns
-returns c = c.small.ensures ∙ ap (λ (found : List ℕ). min (length found) 65535) c.rows_of.ensures
+returns c = c.min.ensures ∙ ap (λ (found : List ℕ). min (length found) 65535) c.rows_of.ensures

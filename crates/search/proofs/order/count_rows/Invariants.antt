@@ -1,11 +1,7 @@
 -- One count after the other.
-use Prim.Native.Nat.{◌-◌}
 use Rattle.search_map.specs.Map.{map_of}
 use Rattle.search.proofs.OrderSteps.{CountedTo}
 use Rattle.search.proofs.order.count_rows.Given as goal
 
 abbrev pub invariant-loop-choice : goal.invariant-loop-choice
 invariant-loop-choice l = CountedTo (map_of l.starts l.lengths l.numbers) l.whole l.choice l.counted
-
-abbrev pub decreases-loop-choice : goal.decreases-loop-choice
-decreases-loop-choice l = 64 - l.choice

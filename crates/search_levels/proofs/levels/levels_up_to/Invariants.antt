@@ -1,11 +1,6 @@
 -- The levels from here on decide.
-use Prim.Native.Nat.{◌-◌}
-use lib.ListN.{length}
 use Rattle.search_levels.proofs.LevelSteps.{LevelsTo}
 use Rattle.search_levels.proofs.levels.levels_up_to.Given as goal
 
 abbrev pub invariant-loop-i : goal.invariant-loop-i
 invariant-loop-i l = LevelsTo l.levels l.limit l.i
-
-abbrev pub decreases-loop-i : goal.decreases-loop-i
-decreases-loop-i l = length l.levels - l.i

@@ -6,4 +6,4 @@ pub returns-then-left-turns : goal.returns-then-left-turns
 returns-then-left-turns c = let s = c in answer-out s.args.left s.args.turns s.args.total s.args.passes s.args.limit s.args.draw c.if-left-turns.true
 
 pub returns : goal.returns
-returns c = let s = c in goes_on-cut s.args.left s.args.turns s.args.total s.args.passes s.args.limit s.args.draw c.if-left-turns.false c.less_u64.ensures
+returns c = let s = c in goes_on-cut s.args.left s.args.turns s.args.total s.args.passes s.args.limit s.args.draw c.if-left-turns.false c.saturating_sub.ensures

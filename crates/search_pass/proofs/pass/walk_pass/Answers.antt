@@ -1,4 +1,4 @@
-use mathlib.Core.Path.{sym, ◌∙◌, ap}
+use mathlib.Core.Path.{refl, sym, ◌∙◌, ap}
 use native.Mathlib.Omega.{arith}
 use Rattle.search_turn.specs.steps.Seen.{sight_tells}
 use Rattle.search_pass.proofs.SightLaws.{plan-written}
@@ -12,7 +12,7 @@ all_max-requires c =
 
 pub loop-left-init : goal.loop-left-init
 loop-left-init c =
-    (at-start _ _ _ _ _ _ _ _ c.requires.fact c.new-state.ensures.0 c.new-state.ensures.1 c.new-state.ensures.2 c.new-state.ensures.3 c.new-state.ensures.4 c.new-state.ensures.5 c.new-state.ensures.6 (remains-all _ _ c.all_max.ensures) c.no_candidates-candidates.ensures c.no_places-next.ensures c.no_places-end.ensures, c.requires.fact)
+    (at-start _ _ _ _ _ _ _ _ c.requires.fact c.new-state.ensures.0 c.new-state.ensures.1 c.new-state.ensures.2 c.new-state.ensures.3 c.new-state.ensures.4 c.new-state.ensures.5 c.new-state.ensures.6 (remains-all _ _ c.all_max.ensures) refl refl refl, c.requires.fact)
 
 pub enum_told-1 : goal.enum_told-1
 enum_told-1 c =

@@ -1,4 +1,6 @@
-use Rattle.search_turn.proofs.StateLaws.{more-past, more-at}
+use mathlib.Core.Path.{◌∙◌}
+use native.Mathlib.Omega.{arith}
+use Rattle.search_turn.proofs.StateLaws.{more_is, more-past, more-at}
 use Rattle.search_turn.proofs.amount.add_at.Goals as goal
 
 pub returns-then-slot-ge24 : goal.returns-then-slot-ge24
@@ -7,4 +9,4 @@ returns-then-slot-ge24 c =
 
 pub returns : goal.returns
 returns c =
-    more-at _ _ _ _ c.if-slot-ge24.false c.more.ensures
+    more-at _ _ _ _ c.if-slot-ge24.false (c.saturating_add.ensures ∙ more_is _ _ (omega arith))

@@ -8,4 +8,4 @@ returns-then-choice-ge64 c =
 
 pub returns : goal.returns
 returns c =
-    (put-at _ _ _ c.if-choice-ge64.false, c.wide.ensures.0 ∙ slot-at _ _ c.if-choice-ge64.false)
+    (put-at _ _ _ c.if-choice-ge64.false, c.from.ensures ∙ slot-at _ _ c.if-choice-ge64.false)

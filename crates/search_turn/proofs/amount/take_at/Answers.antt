@@ -7,4 +7,4 @@ returns-then-slot-ge24 c =
 
 pub returns : goal.returns
 returns c =
-    less-at _ _ _ _ c.if-slot-ge24.false c.less_u32.ensures
+    less-at _ _ _ _ c.if-slot-ge24.false c.saturating_sub.ensures
