@@ -168,9 +168,8 @@ module _ (day : SetsDay) (level : ℕ) where
 
 -- ---- the choosers of one level
 
-pub record KeepsLevel (day : SetsDay) (level : ℕ) (kept₀ : List CriticalSet) (start chooser kept : ℕ) (masks levels : List ℕ) : Type 0 where
+pub record KeepsLevel (day : SetsDay) (level : ℕ) (kept₀ : List CriticalSet) (chooser kept : ℕ) (masks levels : List ℕ) : Type 0 where
   pub so_far : chooser ≤ day.counts.choosers
-  pub from : start ≡ chooser * day.counts.choices
   pub lent : Lent kept masks levels
   pub sets : sets_in kept masks levels ≡ kept_from day kept₀ (list_below chooser (candidate_of day level))
 
@@ -179,23 +178,23 @@ pub row_fits : (chooser choosers choices : ℕ) → chooser < choosers → choos
 row_fits chooser choosers choices h = le_trans (omega (arith, suc-mul chooser choices)) (mul-le-mul_right choices h)
 
 module _ (day : SetsDay) (level : ℕ) (kept₀ : List CriticalSet) where
-  pub level-start : (kept : ℕ) (masks levels : List ℕ) → Lent kept masks levels → sets_in kept masks levels ≡ kept₀ → KeepsLevel day level kept₀ 0 0 kept masks levels
+  pub level-start : (kept : ℕ) (masks levels : List ℕ) → Lent kept masks levels → sets_in kept masks levels ≡ kept₀ → KeepsLevel day level kept₀ 0 kept masks levels
   unfolding list_below kept_from
-  level-start kept masks levels l e = record { so_far = omega arith; from = omega arith; lent = l; sets = e }
+  level-start kept masks levels l e = record { so_far = omega arith; lent = l; sets = e }
 
-  module _ (start chooser kept : ℕ) (masks levels : List ℕ) (s : KeepsLevel day level kept₀ start chooser kept masks levels) where
+  module _ (chooser kept : ℕ) (masks levels : List ℕ) (s : KeepsLevel day level kept₀ chooser kept masks levels) where
     -- the candidate of one chooser more is kept or skipped
     pub level-kept : (room members sum kept' : ℕ) (masks' levels' : List ℕ) → length day.mins ≡ day.counts.choices → room ≡ room_of day
-        → Looked level start day.mins day.preferences members sum (length day.mins)
+        → Looked level (chooser * day.counts.choices) day.mins day.preferences members sum (length day.mins)
         → KeptIn (kept_next room sum (critical_set level members) (sets_in kept masks levels)) kept' masks' levels'
         → KeptIn (kept_from day kept₀ (list_below (chooser + 1) (candidate_of day level))) kept' masks' levels'
     level-kept room members sum kept' masks' levels' m r f k = kept_as same k
       where
         is : critical_set level members ≡ candidate_of day level chooser
-        is = candidate_is day level chooser start members m s.from f.set
+        is = candidate_is day level chooser (chooser * day.counts.choices) members m refl f.set
 
         total : sum ≡ min_sum day (candidate_of day level chooser)
-        total = sum_is day level chooser start sum m s.from f.added
+        total = sum_is day level chooser (chooser * day.counts.choices) sum m refl f.added
 
         same : kept_next room sum (critical_set level members) (sets_in kept masks levels) ≡ kept_from day kept₀ (list_below (chooser + 1) (candidate_of day level))
         same =
@@ -213,27 +212,26 @@ module _ (day : SetsDay) (level : ℕ) (kept₀ : List CriticalSet) where
 
     pub level-on : (kept' : ℕ) (masks' levels' : List ℕ) → KeptIn (kept_from day kept₀ (list_below (chooser + 1) (candidate_of day level))) kept' masks' levels'
         → chooser < day.counts.choosers → length masks' ≡ length masks → length levels' ≡ length levels → kept' ≤ 1024
-        → KeepsLevel day level kept₀ (start + day.counts.choices) (chooser + 1) kept' masks' levels'
+        → KeepsLevel day level kept₀ (chooser + 1) kept' masks' levels'
     level-on kept' masks' levels' k c ml ll h =
         record {
           so_far = omega arith;
-          from = ap (λ (n : ℕ). n + day.counts.choices) s.from ∙ sym (ap (λ (n : ℕ). n * day.counts.choices) (add-one chooser) ∙ suc-mul chooser day.counts.choices);
           lent = record { masks-full = ml ∙ s.lent.masks-full; levels-full = ll ∙ s.lent.levels-full; few = h };
           sets = k.here h;
         }
 
 -- a chooser's preferences lie within the list
-pub candidate_fits : (day : SetsDay) (level : ℕ) (kept₀ : List CriticalSet) (start chooser kept : ℕ) (masks levels : List ℕ) → Fits day → KeepsLevel day level kept₀ start chooser kept masks levels
-    → chooser < day.counts.choosers → (length day.mins ≤ 64) × (start + length day.mins ≤ length day.preferences)
-candidate_fits day level kept₀ start chooser kept masks levels f s h = (
+pub candidate_fits : (day : SetsDay) (level : ℕ) (kept₀ : List CriticalSet) (chooser kept : ℕ) (masks levels : List ℕ) → Fits day → KeepsLevel day level kept₀ chooser kept masks levels
+    → chooser < day.counts.choosers → (length day.mins ≤ 64) × (chooser * day.counts.choices + length day.mins ≤ length day.preferences)
+candidate_fits day level kept₀ chooser kept masks levels f s h = (
   omega (arith, f.mins-fit, f.few-choices),
-  omega (arith, f.mins-fit, f.preferences-fit, s.from, row_fits chooser day.counts.choosers day.counts.choices h),
+  omega (arith, f.mins-fit, f.preferences-fit, row_fits chooser day.counts.choosers day.counts.choices h),
 )
 
-pub start_fits : (day : SetsDay) (level : ℕ) (kept₀ : List CriticalSet) (start chooser kept : ℕ) (masks levels : List ℕ) → Fits day → KeepsLevel day level kept₀ start chooser kept masks levels
-    → chooser < day.counts.choosers → start + day.counts.choices ≤ 12800
-start_fits day level kept₀ start chooser kept masks levels f s h =
-    omega (arith, s.from, row_fits chooser day.counts.choosers day.counts.choices h, product_few day.counts.choosers day.counts.choices 200 64 f.few-choosers f.few-choices)
+pub start_fits : (day : SetsDay) (level : ℕ) (kept₀ : List CriticalSet) (chooser kept : ℕ) (masks levels : List ℕ) → Fits day → KeepsLevel day level kept₀ chooser kept masks levels
+    → chooser < day.counts.choosers → chooser * day.counts.choices ≤ 12800
+start_fits day level kept₀ chooser kept masks levels f s h =
+    omega (arith, row_fits chooser day.counts.choosers day.counts.choices h, product_few day.counts.choosers day.counts.choices 200 64 f.few-choosers f.few-choices)
 
 pub room-is : (day : SetsDay) (room : ℕ) → room ≡ day.counts.choosers * (day.counts.slots - 1) → room ≡ room_of day
 unfolding room_of

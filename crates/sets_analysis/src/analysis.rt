@@ -12,7 +12,6 @@ use super::day::{SetsCounts, counts_keep, lengths_keep};
 use super::kept::kept_sets;
 use super::limits::MOST_SETS;
 use super::simplified::simplify;
-use base_pools::{clear_numbers, clear_words};
 use day_rows::check::Checked;
 use day_rows::lists::{last_level, levels_rise, preferences_keep};
 use day_rows::refusal::Refusal;
@@ -72,8 +71,8 @@ fn clear_past(masks: &mut [u64], levels: &mut [u16], count: usize)
     ensures { (masks.new ≡ cleared_past count masks.old)
         × (levels.new ≡ cleared_past count levels.old) }
 {
-    clear_numbers(&mut masks[count..]);
-    clear_words(&mut levels[count..]);
+    masks[count..].fill(0);
+    levels[count..].fill(0);
 }
 
 // 'Simplifying, if asked', of the sets at the front of the pools. The answer is how many are left.

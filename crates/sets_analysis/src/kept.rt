@@ -29,12 +29,10 @@ fn is_covered(level: u16, members: u64, masks: &[u64], levels: &[u16], count: us
     ensures { let kept = sets_in count masks.now levels.now in
         result ≡ any_of (λ other. covered_by other (critical_set level members)) kept }
 {
-    let mut i = 0;
-    while i < count {
+    for i in 0..count {
         if is_covered_by(level, members, levels[i], masks[i]) {
             return true;
         }
-        i += 1;
     }
     false
 }
@@ -100,16 +98,13 @@ fn keep_level(
     let level = levels[index];
     let room = room_of(counts);
     let mut kept = count;
-    let mut start = 0;
-    let mut chooser = 0;
-    while chooser < counts.choosers {
+    for chooser in 0..counts.choosers {
+        let start = chooser * counts.choices;
         let found = candidate_of(level, mins, preferences, start);
         kept = keep(room, level, found, masks, set_levels, kept);
         if MOST_SETS < kept {
             return kept;
         }
-        start += counts.choices;
-        chooser += 1;
     }
     kept
 }
@@ -130,12 +125,10 @@ pub(crate) fn kept_sets(
         KeptIn (kept_sets day) result masks.new set_levels.new }
 {
     let mut kept = 0;
-    let mut left = levels.len();
-    while 0 < left {
-        left -= 1;
+    for index in (0..levels.len()).rev() {
         kept = keep_level(
             counts,
-            left,
+            index,
             mins,
             levels,
             preferences,

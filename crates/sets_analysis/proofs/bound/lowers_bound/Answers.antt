@@ -1,5 +1,4 @@
 use mathlib.Core.Path.{sym, ◌∙◌}
-use Prim.Native.Nat.{◌-◌}
 use Rattle.sets_analysis.proofs.PoolSteps.{sets-within, sets-past, sets-at}
 use Rattle.sets_analysis.proofs.BoundSteps.{lowers-start, lowers-past, lowers-small, lowers-large, lowers-done, above-told, small, large}
 use borrow.Author.Rules.{rules}

@@ -1,5 +1,4 @@
 use mathlib.Core.Path.{sym, ◌∙◌}
-use Prim.Native.Nat.{◌-◌}
 use Rattle.sets_analysis.specs.Kept.{no_set}
 use Rattle.sets_analysis.proofs.DaySteps.{any_start, any_found, any_next, any_never}
 use Rattle.sets_analysis.proofs.PoolSteps.{sets-within, sets-past, sets-at}
