@@ -27,13 +27,6 @@ module _ (slots : ℕ) (roster : List ℕ) (chooser at : ℕ) (e : at ≡ choose
   pub part_small : (choosers : ℕ) → Seated slots choosers roster → chooser < choosers → at + slots ≤ 4800
   part_small choosers k h = rw e (cells-small slots roster chooser choosers k h)
 
--- where the next chooser's part starts
-pub next_start : (chooser size at : ℕ) → at ≡ chooser * size → at + size ≡ (chooser + 1) * size
-next_start chooser size at e = omega (arith, e, next chooser size)
-  where
-    next : (a b : ℕ) → (a + 1) * b ≡ a * b + b
-    next a b = omega arith
-
 -- the loop over the choosers: one whose slots don't differ ends it, and the others go on
 module _ (slots choosers : ℕ) (plan roster : List ℕ) (chooser : ℕ) {cells : List ℕ} (e : cells ≡ cells_of slots roster chooser) {b : Bool} (p : b ≡ slots_apart plan cells) where
   pub one-meets : chooser < choosers → b ≡ false → false ≡ all_below choosers λ k. slots_apart plan (cells_of slots roster k)

@@ -1,6 +1,4 @@
 -- The loop's invariant: the levels that are left lower the bound so far to the whole's.
-use Prim.Native.Nat.{◌≤◌}
-use lib.ListN.{length}
 use Rattle.day_rows.specs.Levels.{last_level}
 use Rattle.sets_analysis.specs.Calls.{sets_in}
 use Rattle.sets_analysis.proofs.BoundSteps.{BoundFrom}
@@ -8,4 +6,4 @@ use Rattle.sets_analysis.proofs.bound.bound_of.Given as goal
 
 abbrev pub invariant-loop-level : goal.invariant-loop-level
 invariant-loop-level l =
-    (l.level-index ≤ length l.levels) × BoundFrom l.slots (sets_in l.count l.masks l.set_levels) (last_level l.levels) l.levels l.bound l.level-index
+    BoundFrom l.slots (sets_in l.count l.masks l.set_levels) (last_level l.levels) l.levels l.bound l.level-index
