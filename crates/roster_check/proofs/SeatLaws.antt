@@ -12,7 +12,7 @@ use Rattle.base_lists.proofs.Lists.{get_d_any}
 use Rattle.plan_check.specs.Plan.{slot_of, omitted}
 use Rattle.roster_rows.specs.Cells.{cells_of}
 use Rattle.roster_rows.specs.steps.Shapes.{Seated, Tally}
-use Rattle.roster_rows.proofs.CellLaws.{cells-part, cells-end, cells-small}
+use Rattle.roster_rows.proofs.CellLaws.{cells-part, cells-small}
 use Rattle.roster_rows.specs.Seats.{slots_apart}
 use Rattle.roster_check.specs.Roster.{seats_of, seats_fit}
 
@@ -20,9 +20,6 @@ use Rattle.roster_check.specs.Roster.{seats_of, seats_fit}
 module _ (slots : ℕ) (roster : List ℕ) (chooser at : ℕ) (e : at ≡ chooser * slots) where
   pub part_at : take (at + slots - at) (drop at roster) ≡ cells_of slots roster chooser
   part_at = rw e (cells-part slots roster chooser)
-
-  pub part_end : (choosers : ℕ) → Seated slots choosers roster → chooser < choosers → at + slots ≤ length roster
-  part_end choosers k h = rw e (cells-end slots roster chooser choosers k h)
 
   pub part_small : (choosers : ℕ) → Seated slots choosers roster → chooser < choosers → at + slots ≤ 4800
   part_small choosers k h = rw e (cells-small slots roster chooser choosers k h)

@@ -105,11 +105,10 @@ module _ (room sum : ℕ) (set : CriticalSet) (count : ℕ) (masks levels : List
   skips_covered h c t = rw (le-ltb room sum h, t) (record { here = λ l. refl; over = λ l. absurd (omega arith) })
 
   pub one_too_many : sum ≤ room → any_of (λ other. covered_by other set) (sets_in count masks levels) ≡ false → count ≡ 1024
-      → KeptIn (kept_next room sum set (sets_in count masks levels)) 1025 masks levels
+      → 1024 < length (kept_next room sum set (sets_in count masks levels))
   unfolding kept_next
   one_too_many h t e =
-      rw (le-ltb room sum h, t)
-      (record { here = λ l. absurd (omega arith); over = λ l. rw (length-append, sets-length count masks levels) (omega arith) })
+      rw (le-ltb room sum h, t, length-append, sets-length count masks levels) (omega arith)
 
 -- pools with fewer than 1,024 sets have room for one more
 pub room-left : (count : ℕ) (masks levels : List ℕ) → Lent count masks levels → (count ≡ 1024 → ⊥) → (count < length masks) × (count < length levels)
@@ -147,8 +146,11 @@ pub next-is : (day : SetsDay) (set : CriticalSet) (kept : List CriticalSet) → 
 unfolding kept_next kept_from skipped
 next-is day set kept = refl
 
-kept_as : {sets sets' : List CriticalSet} {count : ℕ} {masks levels : List ℕ} → sets ≡ sets' → KeptIn sets count masks levels → KeptIn sets' count masks levels
+pub kept_as : {sets sets' : List CriticalSet} {count : ℕ} {masks levels : List ℕ} → sets ≡ sets' → KeptIn sets count masks levels → KeptIn sets' count masks levels
 kept_as e k = record { here = λ l. k.here l ∙ e; over = λ l. rw (sym e) (k.over l) }
+
+pub many_as : {sets sets' : List CriticalSet} → sets ≡ sets' → 1024 < length sets → 1024 < length sets'
+many_as e h = rw (sym e) h
 
 module _ (day : SetsDay) (level : ℕ) where
   pub candidate_is : (chooser start members : ℕ) → length day.mins ≡ day.counts.choices → start ≡ chooser * day.counts.choices
@@ -184,26 +186,22 @@ module _ (day : SetsDay) (level : ℕ) (kept₀ : List CriticalSet) where
 
   module _ (chooser kept : ℕ) (masks levels : List ℕ) (s : KeepsLevel day level kept₀ chooser kept masks levels) where
     -- the candidate of one chooser more is kept or skipped
-    pub level-kept : (room members sum kept' : ℕ) (masks' levels' : List ℕ) → length day.mins ≡ day.counts.choices → room ≡ room_of day
+    pub level-next : (room members sum : ℕ) → length day.mins ≡ day.counts.choices → room ≡ room_of day
         → Looked level (chooser * day.counts.choices) day.mins day.preferences members sum (length day.mins)
-        → KeptIn (kept_next room sum (critical_set level members) (sets_in kept masks levels)) kept' masks' levels'
-        → KeptIn (kept_from day kept₀ (list_below (chooser + 1) (candidate_of day level))) kept' masks' levels'
-    level-kept room members sum kept' masks' levels' m r f k = kept_as same k
+        → kept_next room sum (critical_set level members) (sets_in kept masks levels) ≡ kept_from day kept₀ (list_below (chooser + 1) (candidate_of day level))
+    level-next room members sum m r f =
+        ap (λ (x : ℕ). kept_next x sum (critical_set level members) (sets_in kept masks levels)) r
+        ∙ ap (λ (x : ℕ). kept_next (room_of day) x (critical_set level members) (sets_in kept masks levels)) total
+        ∙ ap₂ (λ (x : CriticalSet) (l : List CriticalSet). kept_next (room_of day) (min_sum day (candidate_of day level chooser)) x l) is s.sets
+        ∙ next-is day (candidate_of day level chooser) (kept_from day kept₀ (list_below chooser (candidate_of day level)))
+        ∙ sym (kept_append day kept₀ (list_below chooser (candidate_of day level)) (candidate_of day level chooser ∷ []))
+        ∙ ap (kept_from day kept₀) (sym (list-more chooser (candidate_of day level)))
       where
         is : critical_set level members ≡ candidate_of day level chooser
         is = candidate_is day level chooser (chooser * day.counts.choices) members m refl f.set
 
         total : sum ≡ min_sum day (candidate_of day level chooser)
         total = sum_is day level chooser (chooser * day.counts.choices) sum m refl f.added
-
-        same : kept_next room sum (critical_set level members) (sets_in kept masks levels) ≡ kept_from day kept₀ (list_below (chooser + 1) (candidate_of day level))
-        same =
-            ap (λ (x : ℕ). kept_next x sum (critical_set level members) (sets_in kept masks levels)) r
-            ∙ ap (λ (x : ℕ). kept_next (room_of day) x (critical_set level members) (sets_in kept masks levels)) total
-            ∙ ap₂ (λ (x : CriticalSet) (l : List CriticalSet). kept_next (room_of day) (min_sum day (candidate_of day level chooser)) x l) is s.sets
-            ∙ next-is day (candidate_of day level chooser) (kept_from day kept₀ (list_below chooser (candidate_of day level)))
-            ∙ sym (kept_append day kept₀ (list_below chooser (candidate_of day level)) (candidate_of day level chooser ∷ []))
-            ∙ ap (kept_from day kept₀) (sym (list-more chooser (candidate_of day level)))
 
     pub level-done : day.counts.choosers ≤ chooser → KeptIn (kept_from day kept₀ (list_below day.counts.choosers (candidate_of day level))) kept masks levels
     level-done h =
@@ -249,14 +247,10 @@ length_mono day kept₀ f m n h = by_steps (n - m) n (omega arith)
         rw (z, list-more (m + d) f, kept_append day kept₀ (list_below (m + d) f) (f (m + d) ∷ []))
         (le_trans (by_steps d (m + d) refl) (kept-grows day (kept_from day kept₀ (list_below (m + d) f)) (f (m + d) ∷ [])))
 
-pub level-over : (day : SetsDay) (level : ℕ) (kept₀ : List CriticalSet) (chooser kept' : ℕ) (masks' levels' : List ℕ) → chooser < day.counts.choosers → 1024 < kept'
-    → KeptIn (kept_from day kept₀ (list_below (chooser + 1) (candidate_of day level))) kept' masks' levels'
-    → KeptIn (kept_from day kept₀ (list_below day.counts.choosers (candidate_of day level))) kept' masks' levels'
-level-over day level kept₀ chooser kept' masks' levels' c h k =
-    record {
-      here = λ l. absurd (omega arith);
-      over = λ l. le_trans (k.over h) (length_mono day kept₀ (candidate_of day level) (chooser + 1) day.counts.choosers (omega arith));
-    }
+pub level-over : (day : SetsDay) (level : ℕ) (kept₀ : List CriticalSet) (chooser : ℕ) → chooser < day.counts.choosers
+    → 1024 < length (kept_from day kept₀ (list_below (chooser + 1) (candidate_of day level)))
+    → 1024 < length (kept_from day kept₀ (list_below day.counts.choosers (candidate_of day level)))
+level-over day level kept₀ chooser c h = le_trans h (length_mono day kept₀ (candidate_of day level) (chooser + 1) day.counts.choosers (omega arith))
 
 -- ---- the levels downwards
 
@@ -293,21 +287,17 @@ module _ (day : SetsDay) where
 
   module _ (left kept : ℕ) (masks levels : List ℕ) (s : KeepsDown day left kept masks levels) where
     -- the sets of one level more are kept or skipped
-    pub down-kept : (kept' : ℕ) (masks' levels' : List ℕ) → 0 < left
-        → KeptIn (kept_from day (sets_in kept masks levels) (list_below day.counts.choosers (candidate_of day (get_or day.levels (left - 1) 0)))) kept' masks' levels'
-        → KeptIn (kept_from day [] (join_below (day.counts.levels - (left - 1)) (of_level day))) kept' masks' levels'
-    down-kept kept' masks' levels' h k = kept_as same k
+    pub down-next : 0 < left
+        → kept_from day (sets_in kept masks levels) (list_below day.counts.choosers (candidate_of day (get_or day.levels (left - 1) 0)))
+        ≡ kept_from day [] (join_below (day.counts.levels - (left - 1)) (of_level day))
+    down-next h =
+        ap₂ (λ (l : List CriticalSet) (n : ℕ). kept_from day l (list_below day.counts.choosers (candidate_of day n))) s.sets at
+        ∙ sym (kept_append day [] (join_below (day.counts.levels - left) (of_level day)) (of_level day (day.counts.levels - left)))
+        ∙ ap (kept_from day []) (sym (join_more (day.counts.levels - left) (of_level day)))
+        ∙ ap (λ (n : ℕ). kept_from day [] (join_below n (of_level day))) (omega (arith, s.so_far))
       where
         at : get_or day.levels (left - 1) 0 ≡ level_down day (day.counts.levels - left)
         at = level-at day (left - 1) (day.counts.levels - left) (omega (arith, s.so_far))
-
-        same : kept_from day (sets_in kept masks levels) (list_below day.counts.choosers (candidate_of day (get_or day.levels (left - 1) 0)))
-            ≡ kept_from day [] (join_below (day.counts.levels - (left - 1)) (of_level day))
-        same =
-            ap₂ (λ (l : List CriticalSet) (n : ℕ). kept_from day l (list_below day.counts.choosers (candidate_of day n))) s.sets at
-            ∙ sym (kept_append day [] (join_below (day.counts.levels - left) (of_level day)) (of_level day (day.counts.levels - left)))
-            ∙ ap (kept_from day []) (sym (join_more (day.counts.levels - left) (of_level day)))
-            ∙ ap (λ (n : ℕ). kept_from day [] (join_below n (of_level day))) (omega (arith, s.so_far))
 
     pub down-done : left ≤ 0 → KeptIn (kept_sets day) kept masks levels
     unfolding kept_sets candidates
@@ -324,11 +314,6 @@ module _ (day : SetsDay) where
           sets = k.here h;
         }
 
-  pub down-over : (left kept' : ℕ) (masks' levels' : List ℕ) → 1024 < kept'
-      → KeptIn (kept_from day [] (join_below (day.counts.levels - left) (of_level day))) kept' masks' levels' → KeptIn (kept_sets day) kept' masks' levels'
+  pub down-over : (left : ℕ) → 1024 < length (kept_from day [] (join_below (day.counts.levels - left) (of_level day))) → 1024 < length (kept_sets day)
   unfolding kept_sets candidates
-  down-over left kept' masks' levels' h k =
-      record {
-        here = λ l. absurd (omega arith);
-        over = λ l. le_trans (k.over h) (join_mono day (of_level day) (day.counts.levels - left) day.counts.levels (omega arith));
-      }
+  down-over left h = le_trans h (join_mono day (of_level day) (day.counts.levels - left) day.counts.levels (omega arith))

@@ -106,11 +106,10 @@ fn analyze_day(
         let after = pools masks.new set_levels.new in
         outcome (analyzed_tells result) after ≡ sets_kept day kept sets }
 {
-    let kept = kept_sets(counts, mins, levels, preferences, masks, set_levels);
-    if MOST_SETS < kept {
+    let Some(kept) = kept_sets(counts, mins, levels, preferences, masks, set_levels) else {
         clear_past(masks, set_levels, 0);
         return Analyzed::Refused(Refusal::Sets);
-    }
+    };
     let count = simplified_if(simplifies, masks, set_levels, kept);
     let bound = bound_of(counts.slots, levels, masks, set_levels, count);
     clear_past(masks, set_levels, count);
