@@ -12,7 +12,7 @@ use Rattle.base_lists.proofs.Lists.{get_d_any}
 use Rattle.plan_check.specs.Plan.{slot_of, omitted}
 use Rattle.roster_rows.specs.Cells.{cells_of}
 use Rattle.roster_rows.specs.steps.Shapes.{Seated, Tally}
-use Rattle.roster_rows.proofs.CellLaws.{cells-part, cells-end, cells-small}
+use Rattle.roster_rows.proofs.CellLaws.{cells-part, cells-small}
 use Rattle.roster_rows.specs.Seats.{slots_apart}
 use Rattle.roster_check.specs.Roster.{seats_of, seats_fit}
 
@@ -21,18 +21,8 @@ module _ (slots : ℕ) (roster : List ℕ) (chooser at : ℕ) (e : at ≡ choose
   pub part_at : take (at + slots - at) (drop at roster) ≡ cells_of slots roster chooser
   part_at = rw e (cells-part slots roster chooser)
 
-  pub part_end : (choosers : ℕ) → Seated slots choosers roster → chooser < choosers → at + slots ≤ length roster
-  part_end choosers k h = rw e (cells-end slots roster chooser choosers k h)
-
   pub part_small : (choosers : ℕ) → Seated slots choosers roster → chooser < choosers → at + slots ≤ 4800
   part_small choosers k h = rw e (cells-small slots roster chooser choosers k h)
-
--- where the next chooser's part starts
-pub next_start : (chooser size at : ℕ) → at ≡ chooser * size → at + size ≡ (chooser + 1) * size
-next_start chooser size at e = omega (arith, e, next chooser size)
-  where
-    next : (a b : ℕ) → (a + 1) * b ≡ a * b + b
-    next a b = omega arith
 
 -- the loop over the choosers: one whose slots don't differ ends it, and the others go on
 module _ (slots choosers : ℕ) (plan roster : List ℕ) (chooser : ℕ) {cells : List ℕ} (e : cells ≡ cells_of slots roster chooser) {b : Bool} (p : b ≡ slots_apart plan cells) where

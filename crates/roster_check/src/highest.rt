@@ -1,25 +1,13 @@
 // The highest preference that a roster meets.
-ghost use Rattle.std.specs.Prelude.{◌≡◌, ◌+◌, ◌≤◌, max, length, get_or};
+ghost use Rattle.std.specs.Prelude.{◌≡◌, ◌+◌, ◌≤◌, length, get_or};
 ghost use Rattle.roster_rows.specs.steps.Shapes.{Seated};
 ghost use Rattle.roster_check.specs.Roster.{highest_below, highest_met};
-
-use base_pools::wide;
-
-// The larger of two preferences.
-pub(crate) fn larger(a: u16, b: u16) -> u16
-    ensures { result ≡ max a b }
-{
-    if a < b { b } else { a }
-}
 
 // The preference at a place; 0 past the end.
 fn preference_at(preferences: &[u16], at: usize) -> u16
     ensures { result ≡ get_or preferences.now at 0 }
 {
-    if preferences.len() <= at {
-        return 0;
-    }
-    preferences[at]
+    preferences.get(at).copied().unwrap_or(0)
 }
 
 // The highest preference that one chooser, whose preferences start at a place, has for what its cells name.
@@ -29,11 +17,9 @@ fn highest_of(preferences: &[u16], from: usize, cells: &[u8]) -> u16
         (λ s. get_or preferences.now (from + get_or cells.now s 0) 0) }
 {
     let mut highest = 0;
-    let mut s = 0;
-    while s < cells.len() {
-        let met = preference_at(preferences, from + wide(cells[s]));
-        highest = larger(highest, met);
-        s += 1;
+    for cell in cells {
+        let met = preference_at(preferences, from + usize::from(*cell));
+        highest = highest.max(met);
     }
     highest
 }
@@ -50,16 +36,11 @@ pub(crate) fn highest_met(
     ensures { result ≡ highest_met choices slots choosers preferences.now roster.now }
 {
     let mut highest = 0;
-    let mut chooser = 0;
-    let mut at = 0;
-    let mut from = 0;
-    while chooser < choosers {
+    for chooser in 0..choosers {
+        let at = chooser * slots;
         let end = at + slots;
-        let met = highest_of(preferences, from, &roster[at..end]);
-        highest = larger(highest, met);
-        at = end;
-        from += choices;
-        chooser += 1;
+        let met = highest_of(preferences, chooser * choices, &roster[at..end]);
+        highest = highest.max(met);
     }
     highest
 }

@@ -6,7 +6,6 @@ ghost use Rattle.roster_check.specs.Roster.{highest_below};
 ghost use Rattle.roster_check.specs.Check.{roster_counts_in_range, list_judged};
 ghost use Rattle.day_rows.specs.Check.{checked_tells};
 
-use super::highest::larger;
 use super::roster_check::RosterCounts;
 use day_rows::check::{Checked, Counts, Takes, counts_in_range, row_keeps};
 use day_rows::refusal::Refusal;
@@ -46,10 +45,8 @@ fn highest_given(preferences: &[u16]) -> u16
     ensures { result ≡ highest_below (length preferences.now) (λ i. get_or preferences.now i 0) }
 {
     let mut highest = 0;
-    let mut i = 0;
-    while i < preferences.len() {
-        highest = larger(highest, preferences[i]);
-        i += 1;
+    for preference in preferences {
+        highest = highest.max(*preference);
     }
     highest
 }
@@ -66,12 +63,10 @@ pub(crate) fn judge_list(counts: Counts, takes: Takes, before: usize, rows: &[u6
     requires { before + length rows.now < 2 ^ 63 }
     ensures { checked_tells result ≡ list_judged counts takes before rows.now }
 {
-    let mut i = 0;
-    while i < rows.len() {
-        if !row_keeps(counts, takes, rows[i]) {
+    for (i, row) in rows.iter().enumerate() {
+        if !row_keeps(counts, takes, *row) {
             return Checked::Refused(Refusal::Row(before + i));
         }
-        i += 1;
     }
     Checked::Good
 }

@@ -1,12 +1,11 @@
 // Each chooser's slots and each choice's seats.
-ghost use Rattle.std.specs.Prelude.{◌≡◌, ◌≤◌, length, replicate};
+ghost use Rattle.std.specs.Prelude.{◌≡◌, ◌≤◌, length};
 ghost use Rattle.base_lists.specs.Below.{all_below};
 ghost use Rattle.roster_rows.specs.Cells.{cells_of};
 ghost use Rattle.roster_rows.specs.steps.Shapes.{Seated, Tally};
 ghost use Rattle.roster_rows.specs.Seats.{slots_apart};
 ghost use Rattle.roster_check.specs.Roster.{seats_fit};
 
-use base_pools::wide;
 use roster_rows::seats::{choice_fits, slots_apart};
 
 // Whether the slots of every chooser's choices differ.
@@ -15,24 +14,14 @@ pub(crate) fn all_apart(slots: usize, choosers: usize, plan: &[u8], roster: &[u8
     ensures { result ≡ all_below choosers
         (λ chooser. slots_apart plan.now (cells_of slots roster.now chooser)) }
 {
-    let mut chooser = 0;
-    let mut at = 0;
-    while chooser < choosers {
+    for chooser in 0..choosers {
+        let at = chooser * slots;
         let end = at + slots;
         if !slots_apart(plan, &roster[at..end]) {
             return false;
         }
-        at = end;
-        chooser += 1;
     }
     true
-}
-
-// For each byte no seat counted yet.
-fn no_seats() -> [u16; 256]
-    ensures { result ≡ replicate 256 0 }
-{
-    [0u16; 256]
 }
 
 // Every choice's seats: how many cells of a roster name it.
@@ -40,12 +29,9 @@ fn count_seats(roster: &[u8]) -> [u16; 256]
     requires { length roster.now ≤ 4800 }
     ensures { Tally roster.now result }
 {
-    let mut seats = no_seats();
-    let mut i = 0;
-    while i < roster.len() {
-        let at = wide(roster[i]);
-        seats[at] += 1;
-        i += 1;
+    let mut seats = [0u16; 256];
+    for cell in roster {
+        seats[usize::from(*cell)] += 1;
     }
     seats
 }
@@ -59,12 +45,10 @@ pub(crate) fn seats_fit(mins: &[u16], maxs: &[u16], plan: &[u8], roster: &[u8]) 
         result ≡ all_below (length plan.now) fits }
 {
     let seats = count_seats(roster);
-    let mut choice = 0;
-    while choice < plan.len() {
-        if !choice_fits(plan[choice], mins[choice], maxs[choice], seats[choice]) {
+    for (choice, place) in plan.iter().enumerate() {
+        if !choice_fits(*place, mins[choice], maxs[choice], seats[choice]) {
             return false;
         }
-        choice += 1;
     }
     true
 }

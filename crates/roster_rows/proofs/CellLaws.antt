@@ -77,14 +77,6 @@ times_le x (y ∷ l) = go (eqb x y) (times_le x l)
     go true h = omega arith
     go false h = omega arith
 
--- the code's count of the entries passed, with what stands in the rest, is the count of the whole list
-pub times_step : (x : ℕ) (l : List ℕ) (i times r : ℕ) → i < length l → times + times_in x (drop i l) ≡ times_in x l → r ≡ one (eqb x (get_or l i 0))
-    → times + r + times_in x (drop (i + 1) l) ≡ times_in x l
-times_step x l i times r h e q = omega (arith, e, q, times_next x l i h)
-
-pub times_whole : (x : ℕ) (l : List ℕ) (i times : ℕ) → length l ≤ i → times + times_in x (drop i l) ≡ times_in x l → times ≡ times_in x l
-times_whole x l i times h e = omega (arith, e, times_end x l i h)
-
 -- the most cells that a roster may have
 pub few-cells : (slots choosers : ℕ) → slots ≤ 24 → choosers ≤ 200 → choosers * slots ≤ 4800
 few-cells slots choosers s h =

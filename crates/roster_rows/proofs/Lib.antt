@@ -7,3 +7,4 @@ pub mod KindLaws
 pub mod Meaning
 pub mod Outcomes
 pub mod TallyLaws
+pub mod Words

@@ -25,13 +25,11 @@ fn same_choosers(slots: usize, choosers: usize, roster: &[u8], left: u16, right:
         let right_choosers = choosers_in slots choosers roster.now right in
         result ≡ equal_lists left_choosers right_choosers }
 {
-    let mut chooser = 0;
-    while chooser < choosers {
+    for chooser in 0..choosers {
         let cells = cells_of(slots, choosers, roster, chooser);
         if times_in(left, cells) != times_in(right, cells) {
             return false;
         }
-        chooser += 1;
     }
     true
 }
@@ -104,12 +102,10 @@ fn same_choices(
 {
     let ours = tally(cells_of(slots, choosers, roster, left as usize));
     let theirs = tally(cells_of(slots, choosers, roster, right as usize));
-    let mut choice = 0;
-    while choice < choices {
+    for choice in 0..choices {
         if ours[choice] != theirs[choice] {
             return false;
         }
-        choice += 1;
     }
     true
 }
@@ -155,12 +151,10 @@ fn keeps_each_row(
     ensures { result ≡ keeps_assignment_rows choices slots choosers plan.now roster.now
         rows.now }
 {
-    let mut i = 0;
-    while i < rows.len() {
-        if !keeps_assignment_row(choices, slots, choosers, plan, roster, rows[i]) {
+    for row in rows {
+        if !keeps_assignment_row(choices, slots, choosers, plan, roster, *row) {
             return false;
         }
-        i += 1;
     }
     true
 }

@@ -13,21 +13,14 @@ use plan_check::plan_check::cells_fit;
 fn names_scheduled(plan: &[u8], cell: u8) -> bool
     ensures { result ≡ names_scheduled plan.now cell }
 {
-    slot_of(plan, cell as u16) != OMITTED
+    slot_of(plan, u16::from(cell)) != OMITTED
 }
 
 // Whether every roster cell names a scheduled choice.
 fn cells_named(plan: &[u8], roster: &[u8]) -> bool
     ensures { result ≡ all_of (names_scheduled plan.now) roster.now }
 {
-    let mut i = 0;
-    while i < roster.len() {
-        if !names_scheduled(plan, roster[i]) {
-            return false;
-        }
-        i += 1;
-    }
-    true
+    roster.iter().all(|cell| names_scheduled(plan, *cell))
 }
 
 // The refusals of cells: 9 for a plan's, then 10 for a roster's.

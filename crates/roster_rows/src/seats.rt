@@ -3,31 +3,26 @@ ghost use Rattle.std.specs.Prelude.{◌≡◌, ◌&&◌, ◌||◌, ◌≤◌, eq
 ghost use Rattle.plan_check.specs.Plan.{slot_of};
 ghost use Rattle.roster_rows.specs.Seats.{slots_apart};
 
-use super::cells::none_yet;
-use base_pools::wide;
 use plan_check::plan::{OMITTED, slot_of};
 
 // The slot of a cell's choice, as an index; 255 for none.
 fn slot_at(plan: &[u8], cell: u8) -> usize
     ensures { (result ≡ slot_of plan.now cell) × (result ≤ 255) }
 {
-    let slot = slot_of(plan, cell as u16);
-    wide(slot)
+    usize::from(slot_of(plan, u16::from(cell)))
 }
 
 // 'The scheduled slots of a chooser's choices must differ': no slot is met twice.
 pub fn slots_apart(plan: &[u8], cells: &[u8]) -> bool
     ensures { result ≡ slots_apart plan.now cells.now }
 {
-    let mut met = none_yet();
-    let mut s = 0;
-    while s < cells.len() {
-        let slot = slot_at(plan, cells[s]);
-        if met[slot] == 1 {
+    let mut met = [false; 256];
+    for cell in cells {
+        let slot = slot_at(plan, *cell);
+        if met[slot] {
             return false;
         }
-        met[slot] = 1;
-        s += 1;
+        met[slot] = true;
     }
     true
 }

@@ -38,13 +38,6 @@ lengths-known day h =
     let ab = and_left (a && b) c h in
     (eqb-true _ _ (and_left a b ab), eqb-true _ _ (and_right a b ab), eqb-true _ _ (and_right (a && b) c h))
 
--- a day with counts in range and lengths that fit has 1 to 64 levels
-pub levels-few : (day : SetsDay) → sets_counts_in_range day.counts ≡ true → sets_lengths_fit day ≡ true → (1 ≤ length day.levels) × (length day.levels ≤ 64)
-levels-few day h k =
-    let f = counts-known day.counts h in
-    let l = lengths-known day k in
-    (omega (arith, f.some-levels, l.1), omega (arith, f.few-levels, l.1))
-
 module _ (day : SetsDay) (masks levels : List ℕ) where
   pub judged-count : sets_counts_in_range day.counts ≡ false → refuse 1 ≡ day_judged day (pools masks levels)
   unfolding day_judged
@@ -125,11 +118,11 @@ judged-fits day masks levels h =
 -- ---- the answers
 
 -- the answer where too many sets are kept: 7, and both pools all zero
-pub day-over : (day : SetsDay) (sets : List CriticalSet) (kept : ℕ) (masks levels : List ℕ) {masks' levels' : List ℕ} → KeptIn (kept_sets day) kept masks levels → 1024 < kept
+pub day-over : (day : SetsDay) (sets : List CriticalSet) (masks levels : List ℕ) {masks' levels' : List ℕ} → 1024 < length (kept_sets day)
     → (masks' ≡ cleared_past 0 masks) × (levels' ≡ cleared_past 0 levels) → outcome (refuse 7) (pools masks' levels') ≡ sets_kept day (kept_sets day) sets
 unfolding sets_kept sets_in list_below
-day-over day sets kept masks levels k h e =
-    rw (lt-leb (length (kept_sets day)) 1024 (k.over h))
+day-over day sets masks levels h e =
+    rw (lt-leb (length (kept_sets day)) 1024 h)
     (ap (outcome (refuse 7)) (ap₂ pools e.0 e.1 ∙ filled-by 0 masks levels [] (omega arith) (omega arith) refl))
 
 -- the answer where they aren't too many: the sets, simplified if asked, and their bound

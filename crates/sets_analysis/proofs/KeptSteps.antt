@@ -105,11 +105,10 @@ module _ (room sum : ℕ) (set : CriticalSet) (count : ℕ) (masks levels : List
   skips_covered h c t = rw (le-ltb room sum h, t) (record { here = λ l. refl; over = λ l. absurd (omega arith) })
 
   pub one_too_many : sum ≤ room → any_of (λ other. covered_by other set) (sets_in count masks levels) ≡ false → count ≡ 1024
-      → KeptIn (kept_next room sum set (sets_in count masks levels)) 1025 masks levels
+      → 1024 < length (kept_next room sum set (sets_in count masks levels))
   unfolding kept_next
   one_too_many h t e =
-      rw (le-ltb room sum h, t)
-      (record { here = λ l. absurd (omega arith); over = λ l. rw (length-append, sets-length count masks levels) (omega arith) })
+      rw (le-ltb room sum h, t, length-append, sets-length count masks levels) (omega arith)
 
 -- pools with fewer than 1,024 sets have room for one more
 pub room-left : (count : ℕ) (masks levels : List ℕ) → Lent count masks levels → (count ≡ 1024 → ⊥) → (count < length masks) × (count < length levels)
@@ -147,8 +146,11 @@ pub next-is : (day : SetsDay) (set : CriticalSet) (kept : List CriticalSet) → 
 unfolding kept_next kept_from skipped
 next-is day set kept = refl
 
-kept_as : {sets sets' : List CriticalSet} {count : ℕ} {masks levels : List ℕ} → sets ≡ sets' → KeptIn sets count masks levels → KeptIn sets' count masks levels
+pub kept_as : {sets sets' : List CriticalSet} {count : ℕ} {masks levels : List ℕ} → sets ≡ sets' → KeptIn sets count masks levels → KeptIn sets' count masks levels
 kept_as e k = record { here = λ l. k.here l ∙ e; over = λ l. rw (sym e) (k.over l) }
+
+pub many_as : {sets sets' : List CriticalSet} → sets ≡ sets' → 1024 < length sets → 1024 < length sets'
+many_as e h = rw (sym e) h
 
 module _ (day : SetsDay) (level : ℕ) where
   pub candidate_is : (chooser start members : ℕ) → length day.mins ≡ day.counts.choices → start ≡ chooser * day.counts.choices
@@ -168,9 +170,8 @@ module _ (day : SetsDay) (level : ℕ) where
 
 -- ---- the choosers of one level
 
-pub record KeepsLevel (day : SetsDay) (level : ℕ) (kept₀ : List CriticalSet) (start chooser kept : ℕ) (masks levels : List ℕ) : Type 0 where
+pub record KeepsLevel (day : SetsDay) (level : ℕ) (kept₀ : List CriticalSet) (chooser kept : ℕ) (masks levels : List ℕ) : Type 0 where
   pub so_far : chooser ≤ day.counts.choosers
-  pub from : start ≡ chooser * day.counts.choices
   pub lent : Lent kept masks levels
   pub sets : sets_in kept masks levels ≡ kept_from day kept₀ (list_below chooser (candidate_of day level))
 
@@ -179,32 +180,28 @@ pub row_fits : (chooser choosers choices : ℕ) → chooser < choosers → choos
 row_fits chooser choosers choices h = le_trans (omega (arith, suc-mul chooser choices)) (mul-le-mul_right choices h)
 
 module _ (day : SetsDay) (level : ℕ) (kept₀ : List CriticalSet) where
-  pub level-start : (kept : ℕ) (masks levels : List ℕ) → Lent kept masks levels → sets_in kept masks levels ≡ kept₀ → KeepsLevel day level kept₀ 0 0 kept masks levels
+  pub level-start : (kept : ℕ) (masks levels : List ℕ) → Lent kept masks levels → sets_in kept masks levels ≡ kept₀ → KeepsLevel day level kept₀ 0 kept masks levels
   unfolding list_below kept_from
-  level-start kept masks levels l e = record { so_far = omega arith; from = omega arith; lent = l; sets = e }
+  level-start kept masks levels l e = record { so_far = omega arith; lent = l; sets = e }
 
-  module _ (start chooser kept : ℕ) (masks levels : List ℕ) (s : KeepsLevel day level kept₀ start chooser kept masks levels) where
+  module _ (chooser kept : ℕ) (masks levels : List ℕ) (s : KeepsLevel day level kept₀ chooser kept masks levels) where
     -- the candidate of one chooser more is kept or skipped
-    pub level-kept : (room members sum kept' : ℕ) (masks' levels' : List ℕ) → length day.mins ≡ day.counts.choices → room ≡ room_of day
-        → Looked level start day.mins day.preferences members sum (length day.mins)
-        → KeptIn (kept_next room sum (critical_set level members) (sets_in kept masks levels)) kept' masks' levels'
-        → KeptIn (kept_from day kept₀ (list_below (chooser + 1) (candidate_of day level))) kept' masks' levels'
-    level-kept room members sum kept' masks' levels' m r f k = kept_as same k
+    pub level-next : (room members sum : ℕ) → length day.mins ≡ day.counts.choices → room ≡ room_of day
+        → Looked level (chooser * day.counts.choices) day.mins day.preferences members sum (length day.mins)
+        → kept_next room sum (critical_set level members) (sets_in kept masks levels) ≡ kept_from day kept₀ (list_below (chooser + 1) (candidate_of day level))
+    level-next room members sum m r f =
+        ap (λ (x : ℕ). kept_next x sum (critical_set level members) (sets_in kept masks levels)) r
+        ∙ ap (λ (x : ℕ). kept_next (room_of day) x (critical_set level members) (sets_in kept masks levels)) total
+        ∙ ap₂ (λ (x : CriticalSet) (l : List CriticalSet). kept_next (room_of day) (min_sum day (candidate_of day level chooser)) x l) is s.sets
+        ∙ next-is day (candidate_of day level chooser) (kept_from day kept₀ (list_below chooser (candidate_of day level)))
+        ∙ sym (kept_append day kept₀ (list_below chooser (candidate_of day level)) (candidate_of day level chooser ∷ []))
+        ∙ ap (kept_from day kept₀) (sym (list-more chooser (candidate_of day level)))
       where
         is : critical_set level members ≡ candidate_of day level chooser
-        is = candidate_is day level chooser start members m s.from f.set
+        is = candidate_is day level chooser (chooser * day.counts.choices) members m refl f.set
 
         total : sum ≡ min_sum day (candidate_of day level chooser)
-        total = sum_is day level chooser start sum m s.from f.added
-
-        same : kept_next room sum (critical_set level members) (sets_in kept masks levels) ≡ kept_from day kept₀ (list_below (chooser + 1) (candidate_of day level))
-        same =
-            ap (λ (x : ℕ). kept_next x sum (critical_set level members) (sets_in kept masks levels)) r
-            ∙ ap (λ (x : ℕ). kept_next (room_of day) x (critical_set level members) (sets_in kept masks levels)) total
-            ∙ ap₂ (λ (x : CriticalSet) (l : List CriticalSet). kept_next (room_of day) (min_sum day (candidate_of day level chooser)) x l) is s.sets
-            ∙ next-is day (candidate_of day level chooser) (kept_from day kept₀ (list_below chooser (candidate_of day level)))
-            ∙ sym (kept_append day kept₀ (list_below chooser (candidate_of day level)) (candidate_of day level chooser ∷ []))
-            ∙ ap (kept_from day kept₀) (sym (list-more chooser (candidate_of day level)))
+        total = sum_is day level chooser (chooser * day.counts.choices) sum m refl f.added
 
     pub level-done : day.counts.choosers ≤ chooser → KeptIn (kept_from day kept₀ (list_below day.counts.choosers (candidate_of day level))) kept masks levels
     level-done h =
@@ -213,27 +210,26 @@ module _ (day : SetsDay) (level : ℕ) (kept₀ : List CriticalSet) where
 
     pub level-on : (kept' : ℕ) (masks' levels' : List ℕ) → KeptIn (kept_from day kept₀ (list_below (chooser + 1) (candidate_of day level))) kept' masks' levels'
         → chooser < day.counts.choosers → length masks' ≡ length masks → length levels' ≡ length levels → kept' ≤ 1024
-        → KeepsLevel day level kept₀ (start + day.counts.choices) (chooser + 1) kept' masks' levels'
+        → KeepsLevel day level kept₀ (chooser + 1) kept' masks' levels'
     level-on kept' masks' levels' k c ml ll h =
         record {
           so_far = omega arith;
-          from = ap (λ (n : ℕ). n + day.counts.choices) s.from ∙ sym (ap (λ (n : ℕ). n * day.counts.choices) (add-one chooser) ∙ suc-mul chooser day.counts.choices);
           lent = record { masks-full = ml ∙ s.lent.masks-full; levels-full = ll ∙ s.lent.levels-full; few = h };
           sets = k.here h;
         }
 
 -- a chooser's preferences lie within the list
-pub candidate_fits : (day : SetsDay) (level : ℕ) (kept₀ : List CriticalSet) (start chooser kept : ℕ) (masks levels : List ℕ) → Fits day → KeepsLevel day level kept₀ start chooser kept masks levels
-    → chooser < day.counts.choosers → (length day.mins ≤ 64) × (start + length day.mins ≤ length day.preferences)
-candidate_fits day level kept₀ start chooser kept masks levels f s h = (
+pub candidate_fits : (day : SetsDay) (level : ℕ) (kept₀ : List CriticalSet) (chooser kept : ℕ) (masks levels : List ℕ) → Fits day → KeepsLevel day level kept₀ chooser kept masks levels
+    → chooser < day.counts.choosers → (length day.mins ≤ 64) × (chooser * day.counts.choices + length day.mins ≤ length day.preferences)
+candidate_fits day level kept₀ chooser kept masks levels f s h = (
   omega (arith, f.mins-fit, f.few-choices),
-  omega (arith, f.mins-fit, f.preferences-fit, s.from, row_fits chooser day.counts.choosers day.counts.choices h),
+  omega (arith, f.mins-fit, f.preferences-fit, row_fits chooser day.counts.choosers day.counts.choices h),
 )
 
-pub start_fits : (day : SetsDay) (level : ℕ) (kept₀ : List CriticalSet) (start chooser kept : ℕ) (masks levels : List ℕ) → Fits day → KeepsLevel day level kept₀ start chooser kept masks levels
-    → chooser < day.counts.choosers → start + day.counts.choices ≤ 12800
-start_fits day level kept₀ start chooser kept masks levels f s h =
-    omega (arith, s.from, row_fits chooser day.counts.choosers day.counts.choices h, product_few day.counts.choosers day.counts.choices 200 64 f.few-choosers f.few-choices)
+pub start_fits : (day : SetsDay) (level : ℕ) (kept₀ : List CriticalSet) (chooser kept : ℕ) (masks levels : List ℕ) → Fits day → KeepsLevel day level kept₀ chooser kept masks levels
+    → chooser < day.counts.choosers → chooser * day.counts.choices ≤ 12800
+start_fits day level kept₀ chooser kept masks levels f s h =
+    omega (arith, row_fits chooser day.counts.choosers day.counts.choices h, product_few day.counts.choosers day.counts.choices 200 64 f.few-choosers f.few-choices)
 
 pub room-is : (day : SetsDay) (room : ℕ) → room ≡ day.counts.choosers * (day.counts.slots - 1) → room ≡ room_of day
 unfolding room_of
@@ -251,14 +247,10 @@ length_mono day kept₀ f m n h = by_steps (n - m) n (omega arith)
         rw (z, list-more (m + d) f, kept_append day kept₀ (list_below (m + d) f) (f (m + d) ∷ []))
         (le_trans (by_steps d (m + d) refl) (kept-grows day (kept_from day kept₀ (list_below (m + d) f)) (f (m + d) ∷ [])))
 
-pub level-over : (day : SetsDay) (level : ℕ) (kept₀ : List CriticalSet) (chooser kept' : ℕ) (masks' levels' : List ℕ) → chooser < day.counts.choosers → 1024 < kept'
-    → KeptIn (kept_from day kept₀ (list_below (chooser + 1) (candidate_of day level))) kept' masks' levels'
-    → KeptIn (kept_from day kept₀ (list_below day.counts.choosers (candidate_of day level))) kept' masks' levels'
-level-over day level kept₀ chooser kept' masks' levels' c h k =
-    record {
-      here = λ l. absurd (omega arith);
-      over = λ l. le_trans (k.over h) (length_mono day kept₀ (candidate_of day level) (chooser + 1) day.counts.choosers (omega arith));
-    }
+pub level-over : (day : SetsDay) (level : ℕ) (kept₀ : List CriticalSet) (chooser : ℕ) → chooser < day.counts.choosers
+    → 1024 < length (kept_from day kept₀ (list_below (chooser + 1) (candidate_of day level)))
+    → 1024 < length (kept_from day kept₀ (list_below day.counts.choosers (candidate_of day level)))
+level-over day level kept₀ chooser c h = le_trans h (length_mono day kept₀ (candidate_of day level) (chooser + 1) day.counts.choosers (omega arith))
 
 -- ---- the levels downwards
 
@@ -295,21 +287,17 @@ module _ (day : SetsDay) where
 
   module _ (left kept : ℕ) (masks levels : List ℕ) (s : KeepsDown day left kept masks levels) where
     -- the sets of one level more are kept or skipped
-    pub down-kept : (kept' : ℕ) (masks' levels' : List ℕ) → 0 < left
-        → KeptIn (kept_from day (sets_in kept masks levels) (list_below day.counts.choosers (candidate_of day (get_or day.levels (left - 1) 0)))) kept' masks' levels'
-        → KeptIn (kept_from day [] (join_below (day.counts.levels - (left - 1)) (of_level day))) kept' masks' levels'
-    down-kept kept' masks' levels' h k = kept_as same k
+    pub down-next : 0 < left
+        → kept_from day (sets_in kept masks levels) (list_below day.counts.choosers (candidate_of day (get_or day.levels (left - 1) 0)))
+        ≡ kept_from day [] (join_below (day.counts.levels - (left - 1)) (of_level day))
+    down-next h =
+        ap₂ (λ (l : List CriticalSet) (n : ℕ). kept_from day l (list_below day.counts.choosers (candidate_of day n))) s.sets at
+        ∙ sym (kept_append day [] (join_below (day.counts.levels - left) (of_level day)) (of_level day (day.counts.levels - left)))
+        ∙ ap (kept_from day []) (sym (join_more (day.counts.levels - left) (of_level day)))
+        ∙ ap (λ (n : ℕ). kept_from day [] (join_below n (of_level day))) (omega (arith, s.so_far))
       where
         at : get_or day.levels (left - 1) 0 ≡ level_down day (day.counts.levels - left)
         at = level-at day (left - 1) (day.counts.levels - left) (omega (arith, s.so_far))
-
-        same : kept_from day (sets_in kept masks levels) (list_below day.counts.choosers (candidate_of day (get_or day.levels (left - 1) 0)))
-            ≡ kept_from day [] (join_below (day.counts.levels - (left - 1)) (of_level day))
-        same =
-            ap₂ (λ (l : List CriticalSet) (n : ℕ). kept_from day l (list_below day.counts.choosers (candidate_of day n))) s.sets at
-            ∙ sym (kept_append day [] (join_below (day.counts.levels - left) (of_level day)) (of_level day (day.counts.levels - left)))
-            ∙ ap (kept_from day []) (sym (join_more (day.counts.levels - left) (of_level day)))
-            ∙ ap (λ (n : ℕ). kept_from day [] (join_below n (of_level day))) (omega (arith, s.so_far))
 
     pub down-done : left ≤ 0 → KeptIn (kept_sets day) kept masks levels
     unfolding kept_sets candidates
@@ -326,11 +314,6 @@ module _ (day : SetsDay) where
           sets = k.here h;
         }
 
-  pub down-over : (left kept' : ℕ) (masks' levels' : List ℕ) → 1024 < kept'
-      → KeptIn (kept_from day [] (join_below (day.counts.levels - left) (of_level day))) kept' masks' levels' → KeptIn (kept_sets day) kept' masks' levels'
+  pub down-over : (left : ℕ) → 1024 < length (kept_from day [] (join_below (day.counts.levels - left) (of_level day))) → 1024 < length (kept_sets day)
   unfolding kept_sets candidates
-  down-over left kept' masks' levels' h k =
-      record {
-        here = λ l. absurd (omega arith);
-        over = λ l. le_trans (k.over h) (join_mono day (of_level day) (day.counts.levels - left) day.counts.levels (omega arith));
-      }
+  down-over left h = le_trans h (join_mono day (of_level day) (day.counts.levels - left) day.counts.levels (omega arith))

@@ -84,13 +84,6 @@ filled-by count masks levels sets h k e =
     (cleared-pad count masks (map (λ s. s.members) sets) h (ap (map (λ (s : CriticalSet). s.members)) (sym e) ∙ sets-members count masks levels h))
     (cleared-pad count levels (map (λ s. s.level) sets) k (ap (map (λ (s : CriticalSet). s.level)) (sym e) ∙ sets-levels count masks levels k))
 
--- a place among the first entries of a list is one of the list they make
-pub take_within : (n : ℕ) (l : List ℕ) (i : ℕ) → n ≤ length l → i < n → i < length (take n l)
-take_within n l i h k = rw (length-take-le n l h) k
-
-pub take_past : (n : ℕ) (l : List ℕ) (i : ℕ) → n ≤ length l → n ≤ i → length (take n l) ≤ i
-take_past n l i h k = rw (length-take-le n l h) k
-
 -- a pool whose part from a place on was zeroed has zeros past that place
 pub cleared-part : (count : ℕ) (pool cleared : List ℕ) → count ≤ length pool → length pool ≡ 1024 → cleared ≡ replicate (length (mid_of count (length pool - count) pool)) 0
     → put_mid count (length pool - count) pool cleared ≡ cleared_past count pool

@@ -12,7 +12,6 @@ use super::day::{SetsCounts, counts_keep, lengths_keep};
 use super::kept::kept_sets;
 use super::limits::MOST_SETS;
 use super::simplified::simplify;
-use base_pools::{clear_numbers, clear_words};
 use day_rows::check::Checked;
 use day_rows::lists::{last_level, levels_rise, preferences_keep};
 use day_rows::refusal::Refusal;
@@ -72,8 +71,8 @@ fn clear_past(masks: &mut [u64], levels: &mut [u16], count: usize)
     ensures { (masks.new ≡ cleared_past count masks.old)
         × (levels.new ≡ cleared_past count levels.old) }
 {
-    clear_numbers(&mut masks[count..]);
-    clear_words(&mut levels[count..]);
+    masks[count..].fill(0);
+    levels[count..].fill(0);
 }
 
 // 'Simplifying, if asked', of the sets at the front of the pools. The answer is how many are left.
@@ -107,11 +106,10 @@ fn analyze_day(
         let after = pools masks.new set_levels.new in
         outcome (analyzed_tells result) after ≡ sets_kept day kept sets }
 {
-    let kept = kept_sets(counts, mins, levels, preferences, masks, set_levels);
-    if MOST_SETS < kept {
+    let Some(kept) = kept_sets(counts, mins, levels, preferences, masks, set_levels) else {
         clear_past(masks, set_levels, 0);
         return Analyzed::Refused(Refusal::Sets);
-    }
+    };
     let count = simplified_if(simplifies, masks, set_levels, kept);
     let bound = bound_of(counts.slots, levels, masks, set_levels, count);
     clear_past(masks, set_levels, count);

@@ -16,17 +16,14 @@ fn lowers_bound(slots: usize, level: u16, masks: &[u64], levels: &[u16], count: 
     ensures { result ≡ lowers slots (sets_in count masks.now levels.now) level }
 {
     let mut some = false;
-    let mut i = 0;
-    while i < count {
+    for i in 0..count {
         if !is_at_or_above(levels[i], level) {
-            i += 1;
             continue;
         }
         if size(masks[i]) < slots {
             return false;
         }
         some = true;
-        i += 1;
     }
     some
 }
@@ -59,10 +56,8 @@ pub(crate) fn bound_of(
         result ≡ lowered_to slots sets (last_level levels.now) levels.now }
 {
     let mut bound = last_level(levels);
-    let mut i = 0;
-    while i < levels.len() {
-        bound = lowered(slots, bound, levels[i], masks, set_levels, count);
-        i += 1;
+    for level in levels {
+        bound = lowered(slots, bound, *level, masks, set_levels, count);
     }
     bound
 }

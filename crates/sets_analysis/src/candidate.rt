@@ -3,7 +3,6 @@ ghost use Rattle.std.specs.Prelude.{◌≡◌, ◌+◌, ◌≤◌, length};
 ghost use Rattle.sets_analysis.specs.steps.Pools.{Looked};
 
 use base_choice_sets::set::with;
-use base_pools::number::wide_amount;
 
 // A chooser's set at a level, before it is kept or skipped.
 #[derive(Clone, Copy)]
@@ -21,15 +20,12 @@ pub(crate) fn candidate_of(level: u16, mins: &[u16], preferences: &[u16], start:
 {
     let mut members = 0;
     let mut min_sum = 0;
-    let mut choice = 0;
-    while choice < mins.len() {
+    for (choice, min) in mins.iter().enumerate() {
         if level < preferences[start + choice] {
-            choice += 1;
             continue;
         }
         members = with(members, choice);
-        min_sum += wide_amount(mins[choice]);
-        choice += 1;
+        min_sum += u32::from(*min);
     }
     Candidate { members, min_sum }
 }

@@ -1,5 +1,5 @@
 // Which sets are kept: 'Levels downwards, choosers upwards'.
-ghost use Rattle.std.specs.Prelude.{◌≡◌, ◌*◌, ◌-◌, ◌≤◌, ◌<◌, length, get_or};
+ghost use Rattle.std.specs.Prelude.{◌≡◌, ◌*◌, ◌-◌, ◌≤◌, ◌<◌, length, get_or, MatchOption};
 ghost use Rattle.base_lists.specs.Flat.{list_below};
 ghost use Rattle.base_lists.specs.Keep.{any_of};
 ghost use Rattle.sets_analysis.specs.SetsDay.{day_of};
@@ -29,18 +29,16 @@ fn is_covered(level: u16, members: u64, masks: &[u64], levels: &[u16], count: us
     ensures { let kept = sets_in count masks.now levels.now in
         result ≡ any_of (λ other. covered_by other (critical_set level members)) kept }
 {
-    let mut i = 0;
-    while i < count {
+    for i in 0..count {
         if is_covered_by(level, members, levels[i], masks[i]) {
             return true;
         }
-        i += 1;
     }
     false
 }
 
 // A candidate is skipped, kept after the others, or one too many: the answer is how many sets there are then,
-// past 1,024 where there are too many.
+// none where there are too many.
 fn keep(
     room: usize,
     level: u16,
@@ -48,25 +46,26 @@ fn keep(
     masks: &mut [u64],
     levels: &mut [u16],
     count: usize,
-) -> usize
+) -> Option<usize>
     requires { Lent count masks.old levels.old }
     ensures { let before = sets_in count masks.old levels.old in
         let after = kept_next room found.min_sum (critical_set level found.members) before in
-        KeptIn after result masks.new levels.new }
+        MatchOption result (1024 < length after)
+        (λ kept. (kept ≤ 1024) × KeptIn after kept masks.new levels.new) }
 {
     if room < found.min_sum as usize {
-        return count;
+        return Some(count);
     }
     let members = found.members;
     if is_covered(level, members, masks, levels, count) {
-        return count;
+        return Some(count);
     }
     if count == MOST_SETS {
-        return MOST_SETS + 1;
+        return None;
     }
     masks[count] = members;
     levels[count] = level;
-    count + 1
+    Some(count + 1)
 }
 
 // The most that a kept set's sum of min may be: 'H*(S-1), 0 for S = 0'.
@@ -78,7 +77,7 @@ fn room_of(counts: SetsCounts) -> usize
 }
 
 // 'choosers upwards': the sets of one level, kept after the others. The answer is how many sets there are
-// then, past 1,024 where there are too many.
+// then, none where there are too many.
 fn keep_level(
     counts: SetsCounts,
     index: usize,
@@ -88,34 +87,29 @@ fn keep_level(
     masks: &mut [u64],
     set_levels: &mut [u16],
     count: usize,
-) -> usize
+) -> Option<usize>
     requires { let day = day_of counts mins.now levels.now preferences.now in
         Lent count masks.old set_levels.old × Fits day × (index < length levels.now) }
     ensures { let day = day_of counts mins.now levels.now preferences.now in
         let before = sets_in count masks.old set_levels.old in
         let level = get_or levels.now index 0 in
         let after = kept_from day before (list_below counts.choosers (candidate_of day level)) in
-        KeptIn after result masks.new set_levels.new }
+        MatchOption result (1024 < length after)
+        (λ kept. (kept ≤ 1024) × KeptIn after kept masks.new set_levels.new) }
 {
     let level = levels[index];
     let room = room_of(counts);
     let mut kept = count;
-    let mut start = 0;
-    let mut chooser = 0;
-    while chooser < counts.choosers {
+    for chooser in 0..counts.choosers {
+        let start = chooser * counts.choices;
         let found = candidate_of(level, mins, preferences, start);
-        kept = keep(room, level, found, masks, set_levels, kept);
-        if MOST_SETS < kept {
-            return kept;
-        }
-        start += counts.choices;
-        chooser += 1;
+        kept = keep(room, level, found, masks, set_levels, kept)?;
     }
-    kept
+    Some(kept)
 }
 
-// 'Levels downwards': every set of a day that is kept. The answer is how many they are, past 1,024 where
-// there are too many.
+// 'Levels downwards': every set of a day that is kept. The answer is how many they are, none where there are
+// too many.
 pub(crate) fn kept_sets(
     counts: SetsCounts,
     mins: &[u16],
@@ -123,29 +117,25 @@ pub(crate) fn kept_sets(
     preferences: &[u16],
     masks: &mut [u64],
     set_levels: &mut [u16],
-) -> usize
+) -> Option<usize>
     requires { let day = day_of counts mins.now levels.now preferences.now in
         Lent 0 masks.old set_levels.old × Fits day }
     ensures { let day = day_of counts mins.now levels.now preferences.now in
-        KeptIn (kept_sets day) result masks.new set_levels.new }
+        MatchOption result (1024 < length (kept_sets day))
+        (λ kept. (kept ≤ 1024) × KeptIn (kept_sets day) kept masks.new set_levels.new) }
 {
     let mut kept = 0;
-    let mut left = levels.len();
-    while 0 < left {
-        left -= 1;
+    for index in (0..levels.len()).rev() {
         kept = keep_level(
             counts,
-            left,
+            index,
             mins,
             levels,
             preferences,
             masks,
             set_levels,
             kept,
-        );
-        if MOST_SETS < kept {
-            return kept;
-        }
+        )?;
     }
-    kept
+    Some(kept)
 }

@@ -19,8 +19,5 @@ pub fn is_at_or_above(set_level: u16, level: u16) -> bool
 pub fn all_but_one(slots: usize) -> usize
     ensures { result ≡ slots - 1 }
 {
-    if slots == 0 {
-        return 0;
-    }
-    slots - 1
+    slots.saturating_sub(1)
 }

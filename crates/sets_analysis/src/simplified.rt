@@ -30,18 +30,15 @@ fn drop_at(index: usize, masks: &mut [u64], levels: &mut [u16], count: usize) ->
     let here_level = levels[index];
     let here = masks[index];
     let mut stay = 0;
-    let mut i = 0;
-    while i < count {
+    for i in 0..count {
         let level = levels[i];
         let members = masks[i];
         if !stays_beside(here_level, here, level, members) {
-            i += 1;
             continue;
         }
         masks[stay] = members;
         levels[stay] = level;
         stay += 1;
-        i += 1;
     }
     stay
 }
@@ -56,6 +53,7 @@ pub(crate) fn simplify(masks: &mut [u64], levels: &mut [u16], count: usize) -> u
 {
     let mut left = count;
     let mut index = 0;
+    // a `while`, not a `for`: each round may lower the end
     while index < left {
         left = drop_at(index, masks, levels, left);
         index += 1;

@@ -3,18 +3,18 @@ use native.Mathlib.Omega.{arith}
 use Rattle.roster_check.proofs.HighestLaws.{highest-none, highest-more, highest-done, met_at}
 use Rattle.roster_check.proofs.highest.highest_of.Goals as goal
 
-pub loop-s-init : goal.loop-s-init
-loop-s-init c =
-    (search rules, highest-none _)
+pub loop-cell-init : goal.loop-cell-init
+loop-cell-init c =
+    highest-none _
 
 pub overflow_add-from : goal.overflow_add-from
 overflow_add-from c =
-    omega (arith, c.requires, c.wide.ensures.1)
+    omega (arith, c.requires)
 
-pub loop-s-preserved : goal.loop-s-preserved
-loop-s-preserved c =
-    (omega arith, highest-more _ _ c.loop-s.invariant.1 (met_at c.args.preferences.now c.args.cells.now c.args.from c.loop-s.s c.preference_at-met.ensures c.wide.ensures.0) c.larger-highest.ensures)
+pub loop-cell-preserved : goal.loop-cell-preserved
+loop-cell-preserved c =
+    highest-more _ _ c.loop-cell.invariant (met_at c.args.preferences.now c.args.cells.now c.args.from c.loop-cell.cell-index c.preference_at-met.ensures c.from.ensures) (search rules)
 
 pub returns : goal.returns
 returns c =
-    highest-done _ _ _ c.loop-s.invariant.0 c.loop-s-test.false c.loop-s.invariant.1
+    highest-done _ _ _ (omega arith) c.loop-cell-test.false c.loop-cell.invariant

@@ -1,7 +1,6 @@
--- The loop's invariant: the choosers passed have slots that differ, and where the next one's cells start.
+-- The loop's invariant: the choosers passed have slots that differ.
 use mathlib.Core.Path.{◌≡◌}
 use mathlib.Core.Bool.{true}
-use Prim.Native.Nat.{◌*◌, ◌≤◌, ◌-◌}
 use Rattle.base_lists.specs.Below.{all_below}
 use Rattle.roster_rows.specs.Cells.{cells_of}
 use Rattle.roster_rows.specs.Seats.{slots_apart}
@@ -9,8 +8,4 @@ use Rattle.roster_check.proofs.seats.all_apart.Given as goal
 
 abbrev pub invariant-loop-chooser : goal.invariant-loop-chooser
 invariant-loop-chooser l =
-    (l.chooser ≤ l.choosers) × (l.at ≡ l.chooser * l.slots) × (all_below l.chooser (λ k. slots_apart l.plan (cells_of l.slots l.roster k)) ≡ true)
-
-abbrev pub decreases-loop-chooser : goal.decreases-loop-chooser
-decreases-loop-chooser l =
-    l.choosers - l.chooser
+    all_below l.chooser (λ k. slots_apart l.plan (cells_of l.slots l.roster k)) ≡ true

@@ -3,18 +3,18 @@ use native.Mathlib.Omega.{arith}
 use Rattle.roster_rows.proofs.TallyLaws.{tallying_start, tallying_room, tallying_next, tallying_done}
 use Rattle.roster_check.proofs.seats.count_seats.Goals as goal
 
-pub loop-i-init : goal.loop-i-init
-loop-i-init c =
-    tallying_start _ _ c.no_seats-seats.ensures
+pub loop-cell-init : goal.loop-cell-init
+loop-cell-init c =
+    tallying_start _ _ refl
 
 pub overflow_add-seats : goal.overflow_add-seats
 overflow_add-seats c =
-    omega (arith, c.requires, tallying_room _ _ _ c.loop-i.invariant _ c.wide-at.ensures.1)
+    omega (arith, c.requires, tallying_room _ _ _ c.loop-cell.invariant c.from.result (omega arith))
 
-pub loop-i-preserved : goal.loop-i-preserved
-loop-i-preserved c =
-    tallying_next _ _ _ c.loop-i.invariant c.loop-i-test.true _ _ c.wide-at.ensures.0 c.wide-at.ensures.1 refl
+pub loop-cell-preserved : goal.loop-cell-preserved
+loop-cell-preserved c =
+    tallying_next _ _ _ c.loop-cell.invariant c.loop-cell-test.true _ _ c.from.ensures (omega arith) refl
 
 pub returns : goal.returns
 returns c =
-    tallying_done _ _ _ c.loop-i.invariant c.loop-i-test.false
+    tallying_done _ _ _ c.loop-cell.invariant c.loop-cell-test.false

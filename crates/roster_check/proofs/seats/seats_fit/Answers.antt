@@ -1,4 +1,3 @@
-use borrow.Author.Rules.{rules}
 use native.Mathlib.Omega.{arith}
 use Rattle.base_lists.proofs.Through.{all_none, all_done}
 use Rattle.roster_check.proofs.SeatLaws.{seat-fails, seat-fits}
@@ -6,7 +5,7 @@ use Rattle.roster_check.proofs.seats.seats_fit.Goals as goal
 
 pub loop-choice-init : goal.loop-choice-init
 loop-choice-init c =
-    (search rules, all_none _)
+    all_none _
 
 pub returns-then-not-choice_fits : goal.returns-then-not-choice_fits
 returns-then-not-choice_fits c =
@@ -14,8 +13,8 @@ returns-then-not-choice_fits c =
 
 pub loop-choice-preserved : goal.loop-choice-preserved
 loop-choice-preserved c =
-    (omega arith, seat-fits c.args.mins.now c.args.maxs.now c.args.plan.now c.args.roster.now c.loop-choice.choice c.loop-choice-test.true c.requires.0 c.count_seats-seats.ensures c.choice_fits.ensures (c.if-not-choice_fits.false) c.loop-choice.invariant.1)
+    seat-fits c.args.mins.now c.args.maxs.now c.args.plan.now c.args.roster.now c.loop-choice.choice c.loop-choice-test.true c.requires.0 c.count_seats-seats.ensures c.choice_fits.ensures (c.if-not-choice_fits.false) c.loop-choice.invariant
 
 pub returns : goal.returns
 returns c =
-    all_done _ _ _ c.loop-choice.invariant.0 c.loop-choice-test.false c.loop-choice.invariant.1
+    all_done _ _ _ (omega arith) c.loop-choice-test.false c.loop-choice.invariant

@@ -1,16 +1,10 @@
 -- The loop's invariant: the choices passed have seats that fit.
 use mathlib.Core.Path.{◌≡◌}
 use mathlib.Core.Bool.{true}
-use Prim.Native.Nat.{◌≤◌, ◌-◌}
-use lib.ListN.{length}
 use Rattle.base_lists.specs.Below.{all_below}
 use Rattle.roster_check.specs.Roster.{seats_fit}
 use Rattle.roster_check.proofs.seats.seats_fit.Given as goal
 
 abbrev pub invariant-loop-choice : goal.invariant-loop-choice
 invariant-loop-choice l =
-    (l.choice ≤ length l.plan) × (all_below l.choice (seats_fit l.mins l.maxs l.plan l.roster) ≡ true)
-
-abbrev pub decreases-loop-choice : goal.decreases-loop-choice
-decreases-loop-choice l =
-    length l.plan - l.choice
+    all_below l.choice (seats_fit l.mins l.maxs l.plan l.roster) ≡ true

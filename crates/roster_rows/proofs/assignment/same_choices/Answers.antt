@@ -1,4 +1,3 @@
-use borrow.Author.Rules.{rules}
 use mathlib.Core.Path.{◌∙◌}
 use native.Mathlib.Omega.{arith}
 use Rattle.base_lists.proofs.Through.{all_none, all_done}
@@ -16,7 +15,7 @@ tally-theirs-requires c =
 
 pub loop-choice-init : goal.loop-choice-init
 loop-choice-init c =
-    (search rules, all_none _)
+    all_none _
 
 pub returns-then-ours-choice : goal.returns-then-ours-choice
 returns-then-ours-choice c =
@@ -24,8 +23,8 @@ returns-then-ours-choice c =
 
 pub loop-choice-preserved : goal.loop-choice-preserved
 loop-choice-preserved c =
-    (omega arith, choices-agree c.args.choices _ _ _ _ c.cells_of.ensures c.cells_of-2.ensures c.tally-ours.ensures c.tally-theirs.ensures _ (omega (arith, c.requires.1, c.loop-choice-test.true)) c.if-ours-choice.false c.loop-choice.invariant.1)
+    choices-agree c.args.choices _ _ _ _ c.cells_of.ensures c.cells_of-2.ensures c.tally-ours.ensures c.tally-theirs.ensures _ (omega (arith, c.requires.1, c.loop-choice-test.true)) c.if-ours-choice.false c.loop-choice.invariant
 
 pub returns : goal.returns
 returns c =
-    all_done _ _ _ c.loop-choice.invariant.0 c.loop-choice-test.false c.loop-choice.invariant.1 ∙ choices-equal _ _ _ _ _
+    all_done _ _ _ (omega arith) c.loop-choice-test.false c.loop-choice.invariant ∙ choices-equal _ _ _ _ _

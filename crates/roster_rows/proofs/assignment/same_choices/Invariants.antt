@@ -1,7 +1,6 @@
 -- The loop's invariant: the choices passed stand equally often in both tallies.
 use mathlib.Core.Path.{◌≡◌}
 use mathlib.Core.Bool.{true}
-use Prim.Native.Nat.{◌≤◌, ◌-◌}
 use lib.Dec.{eqb}
 use Rattle.base_lists.specs.Below.{all_below}
 use Rattle.base_lists.specs.Group.{times_in}
@@ -10,8 +9,4 @@ use Rattle.roster_rows.proofs.assignment.same_choices.Given as goal
 
 abbrev pub invariant-loop-choice : goal.invariant-loop-choice
 invariant-loop-choice l =
-    (l.choice ≤ l.choices) × (all_below l.choice (λ k. eqb (times_in k (cells_of l.slots l.roster l.left)) (times_in k (cells_of l.slots l.roster l.right))) ≡ true)
-
-abbrev pub decreases-loop-choice : goal.decreases-loop-choice
-decreases-loop-choice l =
-    l.choices - l.choice
+    all_below l.choice (λ k. eqb (times_in k (cells_of l.slots l.roster l.left)) (times_in k (cells_of l.slots l.roster l.right))) ≡ true

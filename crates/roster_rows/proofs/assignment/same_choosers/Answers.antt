@@ -1,4 +1,3 @@
-use borrow.Author.Rules.{rules}
 use mathlib.Core.Path.{◌∙◌}
 use native.Mathlib.Omega.{arith}
 use Rattle.base_lists.proofs.Through.{all_none, all_done}
@@ -7,7 +6,7 @@ use Rattle.roster_rows.proofs.assignment.same_choosers.Goals as goal
 
 pub loop-chooser-init : goal.loop-chooser-init
 loop-chooser-init c =
-    (search rules, all_none _)
+    all_none _
 
 pub returns-then-times_in : goal.returns-then-times_in
 returns-then-times_in c =
@@ -15,8 +14,8 @@ returns-then-times_in c =
 
 pub loop-chooser-preserved : goal.loop-chooser-preserved
 loop-chooser-preserved c =
-    (omega arith, choosers-agree _ c.args.choosers _ _ _ _ _ c.cells_of-cells.ensures c.times_in.ensures c.times_in-in-loop-chooser.ensures c.if-times_in.false c.loop-chooser.invariant.1)
+    choosers-agree _ c.args.choosers _ _ _ _ _ c.cells_of-cells.ensures c.times_in.ensures c.times_in-in-loop-chooser.ensures c.if-times_in.false c.loop-chooser.invariant
 
 pub returns : goal.returns
 returns c =
-    all_done _ _ _ c.loop-chooser.invariant.0 c.loop-chooser-test.false c.loop-chooser.invariant.1 ∙ choosers-equal _ _ _ _ _
+    all_done _ _ _ (omega arith) c.loop-chooser-test.false c.loop-chooser.invariant ∙ choosers-equal _ _ _ _ _

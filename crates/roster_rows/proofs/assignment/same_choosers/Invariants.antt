@@ -1,7 +1,6 @@
 -- The loop's invariant: the choosers passed name both choices equally often.
 use mathlib.Core.Path.{◌≡◌}
 use mathlib.Core.Bool.{true}
-use Prim.Native.Nat.{◌≤◌, ◌-◌}
 use lib.Dec.{eqb}
 use Rattle.base_lists.specs.Below.{all_below}
 use Rattle.base_lists.specs.Group.{times_in}
@@ -10,8 +9,4 @@ use Rattle.roster_rows.proofs.assignment.same_choosers.Given as goal
 
 abbrev pub invariant-loop-chooser : goal.invariant-loop-chooser
 invariant-loop-chooser l =
-    (l.chooser ≤ l.choosers) × (all_below l.chooser (λ k. eqb (times_in l.left (cells_of l.slots l.roster k)) (times_in l.right (cells_of l.slots l.roster k))) ≡ true)
-
-abbrev pub decreases-loop-chooser : goal.decreases-loop-chooser
-decreases-loop-chooser l =
-    l.choosers - l.chooser
+    all_below l.chooser (λ k. eqb (times_in l.left (cells_of l.slots l.roster k)) (times_in l.right (cells_of l.slots l.roster k))) ≡ true

@@ -1,26 +1,10 @@
-use borrow.Author.Rules.{rules}
-use mathlib.Core.Path.{refl, sym, ◌∙◌}
-use native.Mathlib.Omega.{arith}
-use borrow.Author.Tests.{eq-eqb, ne_eqb}
-use lib.Dec.{eqb}
-use Rattle.base_lists.proofs.Keep.{any_here, any_on, any_none}
+use Rattle.std.proofs.Common.{◌∙◌, eqb, rules, tests}
+use Rattle.std.proofs.lemmas.Iterator.{YieldsList-from_slice}
+use Rattle.std.proofs.lemmas.Iterator.Search.{any_from_yields_List}
+use Rattle.roster_rows.proofs.Words.{some-passes, either-way}
 use Rattle.roster_rows.proofs.cells.is_there.Goals as goal
-
-pub loop-s-init : goal.loop-s-init
-loop-s-init c =
-    (search rules, refl)
-
-pub overflow_cast-cells : goal.overflow_cast-cells
-overflow_cast-cells c = omega (arith, c.type_inv.cells c.loop-s.s)
-
-pub returns-then-cells-s : goal.returns-then-cells-s
-returns-then-cells-s c =
-    sym (c.loop-s.invariant.1 ∙ any_here (eqb _) _ _ 0 c.loop-s-test.true (eq-eqb _ _ (sym c.if-cells-s.true)))
-
-pub loop-s-preserved : goal.loop-s-preserved
-loop-s-preserved c =
-    (omega arith, c.loop-s.invariant.1 ∙ any_on (eqb _) _ _ 0 c.loop-s-test.true (ne_eqb _ _ (λ e. c.if-cells-s.false (sym e))))
 
 pub returns : goal.returns
 returns c =
-    sym (c.loop-s.invariant.1 ∙ any_none (eqb _) _ _ c.loop-s-test.false)
+    any_from_yields_List (λ cell. eqb cell c.args.choice) _ _ c.any.result c.any.ensures.ran (YieldsList-from_slice c.args.cells.now cc) (λ x b q k. search (rules, tests))
+    ∙ some-passes _ _ (λ x. either-way x c.args.choice) _

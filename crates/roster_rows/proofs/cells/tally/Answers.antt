@@ -3,18 +3,18 @@ use native.Mathlib.Omega.{arith}
 use Rattle.roster_rows.proofs.TallyLaws.{tallying_start, tallying_room, tallying_next, tallying_done}
 use Rattle.roster_rows.proofs.cells.tally.Goals as goal
 
-pub loop-s-init : goal.loop-s-init
-loop-s-init c =
-    tallying_start _ _ c.none_yet-times.ensures
+pub loop-cell-init : goal.loop-cell-init
+loop-cell-init c =
+    tallying_start _ _ refl
 
 pub overflow_add-times : goal.overflow_add-times
 overflow_add-times c =
-    omega (arith, c.requires, tallying_room _ _ _ c.loop-s.invariant _ c.wide-at.ensures.1)
+    omega (arith, c.requires, tallying_room _ _ _ c.loop-cell.invariant c.from.result (omega arith))
 
-pub loop-s-preserved : goal.loop-s-preserved
-loop-s-preserved c =
-    tallying_next _ _ _ c.loop-s.invariant c.loop-s-test.true _ _ c.wide-at.ensures.0 c.wide-at.ensures.1 refl
+pub loop-cell-preserved : goal.loop-cell-preserved
+loop-cell-preserved c =
+    tallying_next _ _ _ c.loop-cell.invariant c.loop-cell-test.true _ _ c.from.ensures (omega arith) refl
 
 pub returns : goal.returns
 returns c =
-    tallying_done _ _ _ c.loop-s.invariant c.loop-s-test.false
+    tallying_done _ _ _ c.loop-cell.invariant c.loop-cell-test.false

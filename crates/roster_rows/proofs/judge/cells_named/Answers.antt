@@ -1,20 +1,11 @@
-use borrow.Author.Rules.{rules}
-use mathlib.Core.Path.{sym, ◌∙◌}
-use Rattle.plan_check.proofs.CheckLaws.{rest-start, rest-next, rest-fails, rest-none}
+use Rattle.std.proofs.Common.{◌∙◌, refl, rules}
+use Rattle.std.proofs.lemmas.Iterator.{YieldsList-from_slice}
+use Rattle.std.proofs.lemmas.Iterator.Search.{all_from_yields_List}
+use Rattle.roster_rows.specs.Seats.{names_scheduled}
+use Rattle.roster_rows.proofs.Words.{every-passes}
 use Rattle.roster_rows.proofs.judge.cells_named.Goals as goal
-
-pub loop-i-init : goal.loop-i-init
-loop-i-init c =
-    (search rules, rest-start _ _)
-
-pub returns-then-not-names_scheduled : goal.returns-then-not-names_scheduled
-returns-then-not-names_scheduled c =
-    sym (rest-fails _ _ _ c.loop-i-test.true c.loop-i.invariant.1 (sym c.names_scheduled.ensures ∙ c.if-not-names_scheduled.true))
-
-pub loop-i-preserved : goal.loop-i-preserved
-loop-i-preserved c =
-    (search rules, rest-next _ _ _ c.loop-i-test.true c.loop-i.invariant.1 (sym c.names_scheduled.ensures ∙ c.if-not-names_scheduled.false))
 
 pub returns : goal.returns
 returns c =
-    sym (rest-none _ _ _ c.loop-i-test.false c.loop-i.invariant.1)
+    all_from_yields_List (names_scheduled c.args.plan.now) _ _ c.all.result c.all.ensures.ran (YieldsList-from_slice c.args.roster.now cc) (λ x b q k. search rules)
+    ∙ every-passes _ _ (λ x. refl) _

@@ -3,8 +3,8 @@ use native.Mathlib.Omega.{arith}
 use Rattle.sets_analysis.proofs.CallSteps.{day-over, day-answer}
 use Rattle.sets_analysis.proofs.analysis.analyze_day.Goals as goal
 
-pub kept_sets-kept-requires : goal.kept_sets-kept-requires
-kept_sets-kept-requires c = c.requires
+pub kept_sets-requires : goal.kept_sets-requires
+kept_sets-requires c = c.requires
 
 pub clear_past-requires : goal.clear_past-requires
 clear_past-requires c =
@@ -14,24 +14,15 @@ clear_past-requires c =
       few = omega arith;
     }
 
-pub shape_of-masks-then-kept-gt-MOST_SETS : goal.shape_of-masks-then-kept-gt-MOST_SETS
-shape_of-masks-then-kept-gt-MOST_SETS c =
-    omega (arith, c.masks-then-kept-gt-MOST_SETS-1.given, c.masks-1.given)
-
-pub shape_of-set_levels-then-kept-gt-MOST_SETS : goal.shape_of-set_levels-then-kept-gt-MOST_SETS
-shape_of-set_levels-then-kept-gt-MOST_SETS c =
-    omega (arith, c.set_levels-then-kept-gt-MOST_SETS-1.given, c.set_levels-1.given)
-
-pub returns-then-kept-gt-MOST_SETS : goal.returns-then-kept-gt-MOST_SETS
-returns-then-kept-gt-MOST_SETS c =
-    day-over _ _ _ _ _ c.kept_sets-kept.ensures c.if-kept-gt-MOST_SETS.true c.clear_past.ensures
+pub returns-in_default : goal.returns-in_default
+returns-in_default c = day-over _ _ _ _ c.in_default.ensures c.clear_past.ensures
 
 pub simplified_if-count-requires : goal.simplified_if-count-requires
 simplified_if-count-requires c =
     record {
       masks-full = omega (arith, c.masks-1.given, c.requires.0.masks-full);
       levels-full = omega (arith, c.set_levels-1.given, c.requires.0.levels-full);
-      few = c.if-kept-gt-MOST_SETS.false;
+      few = c.in-Some.ensures.0;
     }
 
 pub bound_of-bound-requires : goal.bound_of-bound-requires
@@ -39,7 +30,7 @@ bound_of-bound-requires c = (
   record {
     masks-full = omega (arith, c.masks-2-1.given, c.masks-1.given, c.requires.0.masks-full);
     levels-full = omega (arith, c.set_levels-2-1.given, c.set_levels-1.given, c.requires.0.levels-full);
-    few = omega (arith, c.simplified_if-count.ensures.0, c.if-kept-gt-MOST_SETS.false);
+    few = omega (arith, c.simplified_if-count.ensures.0, c.in-Some.ensures.0);
   },
   omega (arith, c.requires.1.some-levels, c.requires.1.levels-fit),
 )
@@ -49,7 +40,7 @@ clear_past-requires-2 c =
     record {
       masks-full = omega (arith, c.masks-2-1.given, c.masks-1.given, c.requires.0.masks-full);
       levels-full = omega (arith, c.set_levels-2-1.given, c.set_levels-1.given, c.requires.0.levels-full);
-      few = omega (arith, c.simplified_if-count.ensures.0, c.if-kept-gt-MOST_SETS.false);
+      few = omega (arith, c.simplified_if-count.ensures.0, c.in-Some.ensures.0);
     }
 
 pub shape_of-masks : goal.shape_of-masks
@@ -62,8 +53,8 @@ shape_of-set_levels c =
 
 pub returns : goal.returns
 returns c =
-    day-answer _ _ _ _ _ _ _ _ _ c.kept_sets-kept.ensures c.if-kept-gt-MOST_SETS.false c.simplified_if-count.ensures c.bound_of-bound.ensures (record {
+    day-answer _ _ _ _ _ _ _ _ _ c.in-Some.ensures.1 c.in-Some.ensures.0 c.simplified_if-count.ensures c.bound_of-bound.ensures (record {
       masks-full = omega (arith, c.masks-2-1.given, c.masks-1.given, c.requires.0.masks-full);
       levels-full = omega (arith, c.set_levels-2-1.given, c.set_levels-1.given, c.requires.0.levels-full);
-      few = omega (arith, c.simplified_if-count.ensures.0, c.if-kept-gt-MOST_SETS.false);
+      few = omega (arith, c.simplified_if-count.ensures.0, c.in-Some.ensures.0);
     }) c.clear_past-2.ensures

@@ -1,6 +1,5 @@
 -- Each refusal where the tests before it hold and its own does not.
 use mathlib.Core.Path.{sym, ◌∙◌}
-use mathlib.Core.Bool.{true}
 use Rattle.sets_analysis.proofs.CallSteps.{judged-count, judged-lengths, judged-masks, judged-levels, judged-rise, judged_preference, judged-good}
 use Rattle.sets_analysis.proofs.analysis.judge.Goals as goal
 

@@ -1,14 +1,9 @@
 -- The loop's invariant: the levels that are left lower the bound so far to the whole's.
-use Prim.Native.Nat.{◌≤◌, ◌-◌}
-use lib.ListN.{length}
 use Rattle.day_rows.specs.Levels.{last_level}
 use Rattle.sets_analysis.specs.Calls.{sets_in}
 use Rattle.sets_analysis.proofs.BoundSteps.{BoundFrom}
 use Rattle.sets_analysis.proofs.bound.bound_of.Given as goal
 
-abbrev pub invariant-loop-i : goal.invariant-loop-i
-invariant-loop-i l =
-    (l.i ≤ length l.levels) × BoundFrom l.slots (sets_in l.count l.masks l.set_levels) (last_level l.levels) l.levels l.bound l.i
-
-abbrev pub decreases-loop-i : goal.decreases-loop-i
-decreases-loop-i l = length l.levels - l.i
+abbrev pub invariant-loop-level : goal.invariant-loop-level
+invariant-loop-level l =
+    BoundFrom l.slots (sets_in l.count l.masks l.set_levels) (last_level l.levels) l.levels l.bound l.level-index

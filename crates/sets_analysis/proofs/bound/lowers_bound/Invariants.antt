@@ -1,11 +1,7 @@
 -- The loop's invariant: the sets that are left decide, with whether one was met.
-use Prim.Native.Nat.{◌≤◌, ◌-◌}
 use Rattle.sets_analysis.specs.Calls.{sets_in}
 use Rattle.sets_analysis.proofs.BoundSteps.{LowersFrom}
 use Rattle.sets_analysis.proofs.bound.lowers_bound.Given as goal
 
 abbrev pub invariant-loop-i : goal.invariant-loop-i
-invariant-loop-i l = (l.i ≤ l.count) × LowersFrom l.slots l.level (sets_in l.count l.masks l.levels) l.some l.i
-
-abbrev pub decreases-loop-i : goal.decreases-loop-i
-decreases-loop-i l = l.count - l.i
+invariant-loop-i l = LowersFrom l.slots l.level (sets_in l.count l.masks l.levels) l.some l.i

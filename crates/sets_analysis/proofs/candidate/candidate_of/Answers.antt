@@ -1,4 +1,3 @@
-use Prim.Native.Nat.{◌-◌}
 use native.Mathlib.Omega.{arith}
 use Rattle.sets_analysis.proofs.KeptSteps.{looked-start, looked-past, looked_in, looked-all}
 use borrow.Author.Rules.{rules}
@@ -13,11 +12,11 @@ loop-choice-preserved-then-level-preferences c =
 
 pub overflow_add-min_sum : goal.overflow_add-min_sum
 overflow_add-min_sum c =
-    omega (arith, c.loop-choice.invariant.1, c.loop-choice-test.true, c.wide_amount-min_sum.ensures.1, c.requires.0)
+    omega (arith, c.loop-choice.invariant.1, c.loop-choice-test.true, c.requires.0)
 
 pub loop-choice-preserved : goal.loop-choice-preserved
 loop-choice-preserved c =
-    (search rules, omega (arith, c.loop-choice.invariant.1, c.wide_amount-min_sum.ensures.1), looked_in _ _ _ _ _ _ _ c.loop-choice.invariant.2 _ _ c.if-level-preferences.false (omega (arith, c.loop-choice-test.true, c.requires.0)) c.with-members.ensures c.wide_amount-min_sum.ensures.0)
+    (search rules, omega (arith, c.loop-choice.invariant.1), looked_in _ _ _ _ _ _ _ c.loop-choice.invariant.2 _ _ c.if-level-preferences.false (omega (arith, c.loop-choice-test.true, c.requires.0)) c.with-members.ensures c.from-min_sum.ensures)
 
 pub returns : goal.returns
 returns c =

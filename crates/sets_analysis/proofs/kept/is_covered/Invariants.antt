@@ -1,5 +1,4 @@
 -- The loop's invariant: the sets that are left decide.
-use Prim.Native.Nat.{◌≤◌, ◌-◌}
 use Rattle.sets_analysis.specs.Kept.{critical_set, covered_by}
 use Rattle.sets_analysis.specs.Calls.{sets_in}
 use Rattle.sets_analysis.proofs.DaySteps.{AnyFrom}
@@ -7,7 +6,4 @@ use Rattle.sets_analysis.proofs.kept.is_covered.Given as goal
 
 abbrev pub invariant-loop-i : goal.invariant-loop-i
 invariant-loop-i l =
-    (l.i ≤ l.count) × AnyFrom (λ other. covered_by other (critical_set l.level l.members)) (sets_in l.count l.masks l.levels) l.i
-
-abbrev pub decreases-loop-i : goal.decreases-loop-i
-decreases-loop-i l = l.count - l.i
+    AnyFrom (λ other. covered_by other (critical_set l.level l.members)) (sets_in l.count l.masks l.levels) l.i

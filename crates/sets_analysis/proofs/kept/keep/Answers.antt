@@ -1,14 +1,15 @@
 -- Skipped for its sum or as covered; too many; or kept.
 use mathlib.Core.Path.{sym, ◌∙◌}
+use native.Mathlib.Omega.{arith}
 use Rattle.sets_analysis.proofs.KeptSteps.{skips-sum, skips_covered, one_too_many, keeps-one, room-left}
 use Rattle.sets_analysis.proofs.kept.keep.Goals as goal
 
 pub returns-then-room-found : goal.returns-then-room-found
-returns-then-room-found c = skips-sum _ _ _ _ _ _ c.if-room-found.true c.requires.few
+returns-then-room-found c = (c.requires.few, skips-sum _ _ _ _ _ _ c.if-room-found.true c.requires.few)
 
 pub returns-then-is_covered : goal.returns-then-is_covered
 returns-then-is_covered c =
-    skips_covered _ _ _ _ _ _ c.if-room-found.false c.requires.few (sym c.is_covered.ensures ∙ c.if-is_covered.true)
+    (c.requires.few, skips_covered _ _ _ _ _ _ c.if-room-found.false c.requires.few (sym c.is_covered.ensures ∙ c.if-is_covered.true))
 
 pub returns-then-count-eq-MOST_SETS : goal.returns-then-count-eq-MOST_SETS
 returns-then-count-eq-MOST_SETS c =
@@ -24,4 +25,5 @@ bounds-levels-count c =
 
 pub returns : goal.returns
 returns c =
-    keeps-one _ _ _ _ _ _ _ c.requires c.if-count-eq-MOST_SETS.false c.if-room-found.false (sym c.is_covered.ensures ∙ c.if-is_covered.false)
+    let room = (room-left _ _ _ c.requires c.if-count-eq-MOST_SETS.false).0 in
+    (omega (arith, room, c.requires.masks-full), keeps-one _ _ _ _ _ _ _ c.requires c.if-count-eq-MOST_SETS.false c.if-room-found.false (sym c.is_covered.ensures ∙ c.if-is_covered.false))

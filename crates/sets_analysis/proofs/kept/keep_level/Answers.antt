@@ -1,7 +1,6 @@
 use mathlib.Core.Path.{refl}
-use Prim.Native.Nat.{◌-◌}
 use native.Mathlib.Omega.{arith}
-use Rattle.sets_analysis.proofs.KeptSteps.{level-start, level-kept, level-on, level-over, level-done, candidate_fits, start_fits, room-is}
+use Rattle.sets_analysis.proofs.KeptSteps.{level-start, level-next, kept_as, many_as, level-on, level-over, level-done, candidate_fits, start_fits, room-is}
 use Rattle.sets_analysis.proofs.kept.keep_level.Goals as goal
 
 pub room_of-room-requires : goal.room_of-room-requires
@@ -14,38 +13,14 @@ loop-chooser-init c =
 
 pub candidate_of-found-requires : goal.candidate_of-found-requires
 candidate_of-found-requires c =
-    candidate_fits _ _ _ _ _ _ _ _ c.requires.1 c.loop-chooser.invariant c.loop-chooser-test.true
+    candidate_fits _ _ _ _ _ _ _ c.requires.1 c.loop-chooser.invariant c.loop-chooser-test.true
 
-pub keep-kept-requires : goal.keep-kept-requires
-keep-kept-requires c = c.loop-chooser.invariant.lent
+pub keep-requires : goal.keep-requires
+keep-requires c = c.loop-chooser.invariant.lent
 
-pub shape_of-masks-then-kept-gt-MOST_SETS : goal.shape_of-masks-then-kept-gt-MOST_SETS
-shape_of-masks-then-kept-gt-MOST_SETS c =
-    omega (arith, c.masks-1.given, c.loop-chooser.invariant.lent.masks-full, c.requires.0.masks-full)
-
-pub shape_of-set_levels-then-kept-gt-MOST_SETS : goal.shape_of-set_levels-then-kept-gt-MOST_SETS
-shape_of-set_levels-then-kept-gt-MOST_SETS c =
-    omega (arith, c.set_levels-1.given, c.loop-chooser.invariant.lent.levels-full, c.requires.0.levels-full)
-
-pub returns-then-kept-gt-MOST_SETS : goal.returns-then-kept-gt-MOST_SETS
-returns-then-kept-gt-MOST_SETS c =
-    level-over _ _ _ _ _ _ _ c.loop-chooser-test.true c.if-kept-gt-MOST_SETS.true (level-kept _ _ _ _ _ _ _ _ c.loop-chooser.invariant _ _ _ _ _ _ c.requires.1.mins-fit (room-is _ _ c.room_of-room.ensures) c.candidate_of-found.ensures c.keep-kept.ensures)
-
-pub overflow_add-start : goal.overflow_add-start
-overflow_add-start c =
-    omega (arith, start_fits _ _ _ _ _ _ _ _ c.requires.1 c.loop-chooser.invariant c.loop-chooser-test.true)
-
-pub overflow_add-chooser : goal.overflow_add-chooser
-overflow_add-chooser c =
-    omega (arith, c.loop-chooser-test.true, c.requires.1.few-choosers)
-
-pub loop-chooser-smaller : goal.loop-chooser-smaller
-loop-chooser-smaller c =
-    omega (arith, c.loop-chooser-test.true)
-
-pub loop-chooser-preserved : goal.loop-chooser-preserved
-loop-chooser-preserved c =
-    level-on _ _ _ _ _ _ _ _ c.loop-chooser.invariant _ _ _ (level-kept _ _ _ _ _ _ _ _ c.loop-chooser.invariant _ _ _ _ _ _ c.requires.1.mins-fit (room-is _ _ c.room_of-room.ensures) c.candidate_of-found.ensures c.keep-kept.ensures) c.loop-chooser-test.true (omega (arith, c.masks-1.given)) (omega (arith, c.set_levels-1.given)) c.if-kept-gt-MOST_SETS.false
+pub overflow_mul-start : goal.overflow_mul-start
+overflow_mul-start c =
+    omega (arith, start_fits _ _ _ _ _ _ _ c.requires.1 c.loop-chooser.invariant c.loop-chooser-test.true)
 
 pub shape_of-masks : goal.shape_of-masks
 shape_of-masks c =
@@ -55,5 +30,15 @@ pub shape_of-set_levels : goal.shape_of-set_levels
 shape_of-set_levels c =
     omega (arith, c.loop-chooser.invariant.lent.levels-full, c.requires.0.levels-full)
 
+pub returns-in_err-kept : goal.returns-in_err-kept
+returns-in_err-kept c =
+    let next = level-next _ _ _ _ _ _ _ c.loop-chooser.invariant _ _ _ c.requires.1.mins-fit (room-is _ _ c.room_of-room.ensures) c.candidate_of-found.ensures in
+    rw c.from_residual.ensures (level-over _ _ _ _ c.loop-chooser-test.true (many_as next c.in_err-kept.ensures))
+
+pub loop-chooser-preserved : goal.loop-chooser-preserved
+loop-chooser-preserved c =
+    let next = level-next _ _ _ _ _ _ _ c.loop-chooser.invariant _ _ _ c.requires.1.mins-fit (room-is _ _ c.room_of-room.ensures) c.candidate_of-found.ensures in
+    level-on _ _ _ _ _ _ _ c.loop-chooser.invariant _ _ _ (kept_as next c.in_ok-kept.ensures.1) c.loop-chooser-test.true (omega arith) (omega arith) c.in_ok-kept.ensures.0
+
 pub returns : goal.returns
-returns c = level-done _ _ _ _ _ _ _ _ c.loop-chooser.invariant c.loop-chooser-test.false
+returns c = (c.loop-chooser.invariant.lent.few, level-done _ _ _ _ _ _ _ c.loop-chooser.invariant c.loop-chooser-test.false)

@@ -1,7 +1,7 @@
 -- H times all slots but one: both factors are small.
 use mathlib.Core.Path.{ap}
 use native.Mathlib.Omega.{arith}
-use Prim.Native.Nat.{ℕ, ◌*◌, ◌-◌}
+use Prim.Native.Nat.{ℕ, ◌*◌}
 use Rattle.sets_analysis.proofs.DaySteps.{product_few}
 use Rattle.sets_analysis.proofs.kept.room_of.Goals as goal
 

@@ -1,5 +1,4 @@
 use mathlib.Core.Path.{sym, ◌∙◌}
-use Prim.Native.Nat.{◌-◌}
 use native.Mathlib.Omega.{arith}
 use Rattle.sets_analysis.proofs.SimplifiedSteps.{drops_start, drops_out, drops_in, drops_done}
 use Rattle.sets_analysis.proofs.simplified.drop_at.Goals as goal

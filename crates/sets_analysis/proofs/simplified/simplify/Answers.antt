@@ -1,4 +1,3 @@
-use Prim.Native.Nat.{◌-◌}
 use native.Mathlib.Omega.{arith}
 use Rattle.sets_analysis.proofs.SimplifiedSteps.{simplifies_start, simplifies_on, simplifies_done, simplifies_lent}
 use Rattle.sets_analysis.proofs.simplified.simplify.Goals as goal
