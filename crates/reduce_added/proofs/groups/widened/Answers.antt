@@ -6,10 +6,7 @@ use borrow.Author.Rules.{rules}
 use Rattle.reduce_added.proofs.groups.widened.Goals as goal
 
 pub loop-i-init : goal.loop-i-init
-loop-i-init c = (sym c.words-choices.ensures.0, search rules, refl)
-
-pub bounds-members-i : goal.bounds-members-i
-bounds-members-i c = omega (arith, c.requires)
+loop-i-init c = (refl, refl)
 
 pub bounds-choices-i : goal.bounds-choices-i
 bounds-choices-i c = omega (arith, c.loop-i.invariant.0)
@@ -17,9 +14,9 @@ bounds-choices-i c = omega (arith, c.loop-i.invariant.0)
 pub loop-i-preserved : goal.loop-i-preserved
 loop-i-preserved c =
     let l = c.loop-i in
-    (simp length-set l.invariant.0, omega arith, widen_more _ _ l.i _ (omega (arith, l.invariant.0)) (omega (arith, c.requires)) c.choice.ensures l.invariant.2)
+    (simp length-set l.invariant.0, widen_more _ _ l.i _ (omega (arith, l.invariant.0)) (omega (arith, c.requires)) c.from.ensures l.invariant.1)
 
 pub returns : goal.returns
 returns c =
     let l = c.loop-i in
-    widen_all _ _ l.i l.invariant.0 c.requires (omega arith) l.invariant.2
+    widen_all _ _ l.i l.invariant.0 c.requires (omega arith) l.invariant.1

@@ -5,8 +5,5 @@ use lib.ListN.{length}
 use Rattle.reduce_added.proofs.Pairing.{Passed}
 use Rattle.reduce_added.proofs.pairs.mark.Given as goal
 
-abbrev pub invariant-loop-i : goal.invariant-loop-i
-invariant-loop-i l = (l.i ≤ length l.rows) × (length l.named ≡ length l.initial.named) × Passed l.rows l.named l.i
-
-abbrev pub decreases-loop-i : goal.decreases-loop-i
-decreases-loop-i l = length l.rows - l.i
+abbrev pub invariant-loop-row : goal.invariant-loop-row
+invariant-loop-row l = (l.row-index ≤ length l.rows) × (length l.named ≡ length l.initial.named) × Passed l.rows l.named l.row-index

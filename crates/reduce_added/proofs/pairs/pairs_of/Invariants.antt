@@ -7,6 +7,3 @@ use Rattle.reduce_added.proofs.pairs.pairs_of.Given as goal
 
 abbrev pub invariant-loop-i : goal.invariant-loop-i
 invariant-loop-i l = (l.i ≤ length l.list) × Stores l.initial.free l.from (pairs_of l.list) l.free l.at (pairs_of (drop l.i l.list))
-
-abbrev pub decreases-loop-i : goal.decreases-loop-i
-decreases-loop-i l = length l.list - l.i
