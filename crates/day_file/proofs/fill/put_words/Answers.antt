@@ -7,7 +7,7 @@ use Rattle.day_file.proofs.fill.put_words.Goals as goal
 
 pub loop-i-init : goal.loop-i-init
 loop-i-init c =
-    (search rules, refl, fill_start _)
+    (refl, fill_start _)
 
 pub overflow_mul-step : goal.overflow_mul-step
 overflow_mul-step c =
@@ -23,8 +23,8 @@ word_at-requires c =
 
 pub loop-i-preserved : goal.loop-i-preserved
 loop-i-preserved c =
-    (omega arith, simp length-set c.loop-i.invariant.1, fill_next _ _ _ _ (omega arith) c.loop-i.invariant.2 c.word_at.ensures)
+    (simp length-set c.loop-i.invariant.0, fill_next _ _ _ _ (omega arith) c.loop-i.invariant.1 c.word_at.ensures)
 
 pub returns : goal.returns
 returns c =
-    fill_done _ _ _ _ c.loop-i.invariant.0 c.loop-i-test.false c.loop-i.invariant.2
+    fill_done _ _ _ _ (omega arith) (omega arith) c.loop-i.invariant.1

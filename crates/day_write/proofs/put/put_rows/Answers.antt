@@ -9,7 +9,7 @@ use Rattle.day_write.proofs.put.put_rows.Goals as goal
 
 pub loop-i-init : goal.loop-i-init
 loop-i-init c =
-    (search rules, refl, sets-start _ _ _)
+    (refl, sets-start _ _ _)
 
 pub put_row-requires : goal.put_row-requires
 put_row-requires c =
@@ -18,8 +18,8 @@ put_row-requires c =
 pub loop-i-preserved : goal.loop-i-preserved
 loop-i-preserved c =
     let s = c in
-    (omega arith, c.put_row.auto.pool ∙ c.loop-i.invariant.1, sets_join 6 (λ k. row_bytes (get_or s.args.rows.now k 0)) (λ k. length-row (get_or s.args.rows.now k 0)) _ _ _ c.loop-i.invariant.2 c.put_row.ensures)
+    (c.put_row.auto.pool ∙ c.loop-i.invariant.0, sets_join 6 (λ k. row_bytes (get_or s.args.rows.now k 0)) (λ k. length-row (get_or s.args.rows.now k 0)) _ _ _ c.loop-i.invariant.1 c.put_row.ensures)
 
 pub returns : goal.returns
 returns c =
-    record { fact_1 = search rules; fact_2 = sets-done _ _ _ _ _ c.loop-i.invariant.0 c.loop-i-test.false c.loop-i.invariant.2 }
+    record { fact_1 = search rules; fact_2 = sets-done _ _ _ _ _ (omega arith) (omega arith) c.loop-i.invariant.1 }

@@ -1,13 +1,10 @@
 use mathlib.Core.Path.{sym, ◌∙◌}
-use Rattle.base_lists.proofs.Stores.{each_start, each_part, each-end, each-count, stored-none}
+use Rattle.base_lists.proofs.Stores.{each_part, each-end, each-count, stored-none}
 use Rattle.reduce_added.proofs.Copying.{copies_none, copies_some}
 use Rattle.reduce_added.proofs.copies.copies_in.Goals as goal
 
 pub returns-then-not-holds : goal.returns-then-not-holds
 returns-then-not-holds c = stored-none _ _ (copies_none _ _ (sym c.holds.ensures ∙ c.if-not-holds.true))
-
-pub loop-member-init : goal.loop-member-init
-loop-member-init c = each_start _ _ _ _
 
 pub copy_to-at-requires : goal.copy_to-at-requires
 copy_to-at-requires c =
@@ -20,9 +17,6 @@ pub loop-member-preserved : goal.loop-member-preserved
 loop-member-preserved c =
     let l = c.loop-member in
     each_part _ _ l.member-index 0 c.loop-member-test.true l.invariant c.copy_to-at.ensures
-
-pub shape_of-free : goal.shape_of-free
-shape_of-free c = c.loop-member.invariant.1.same
 
 pub returns : goal.returns
 returns c =

@@ -1,6 +1,4 @@
 -- Nothing in another group; else the loop's invariant: what is left to store gives what was to store.
-use Prim.Native.Nat.{◌-◌}
-use lib.ListN.{length}
 use Rattle.base_lists.proofs.Stores.{Each}
 use Rattle.reduce_added.specs.Copies.{copy_to}
 use Rattle.reduce_added.proofs.copies.copies_in.Given as goal

@@ -1,10 +1,7 @@
-use Rattle.base_lists.proofs.Cut.{cuts_start, cuts_end}
+use Rattle.base_lists.proofs.Cut.{cuts_end}
 use Rattle.reduce_added.proofs.Cutting.{turn}
 use borrow.Author.Rules.{rules}
 use Rattle.reduce_added.proofs.copies.copies_of.Goals as goal
-
-pub loop-byte-init : goal.loop-byte-init
-loop-byte-init c = cuts_start _ _ _ _ _ c.requires.0
 
 pub offset_bounds-members-start : goal.offset_bounds-members-start
 offset_bounds-members-start c =

@@ -1,7 +1,5 @@
 -- The loop's invariant: what is left to store gives what was to store. The needs stand in the code's order;
 -- those of a turn are told by the law of `Cutting`.
-use Prim.Native.Nat.{◌-◌}
-use lib.ListN.{length}
 use Rattle.base_lists.proofs.Cut.{Cuts}
 use Rattle.reduce_added.specs.Copies.{copies_in}
 use Rattle.reduce_added.proofs.copies.copies_of.Given as goal

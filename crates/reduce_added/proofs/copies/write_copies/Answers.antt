@@ -1,8 +1,5 @@
-use Rattle.base_lists.proofs.Stores.{each_start, each_part, each-end, each-count}
+use Rattle.base_lists.proofs.Stores.{each_part, each-end, each-count}
 use Rattle.reduce_added.proofs.copies.write_copies.Goals as goal
-
-pub loop-row-init : goal.loop-row-init
-loop-row-init c = each_start _ _ _ _
 
 pub copies_for-at-requires : goal.copies_for-at-requires
 copies_for-at-requires c =
@@ -13,9 +10,6 @@ pub loop-row-preserved : goal.loop-row-preserved
 loop-row-preserved c =
     let l = c.loop-row in
     each_part _ _ l.row-index 0 c.loop-row-test.true l.invariant c.copies_for-at.ensures
-
-pub shape_of-free : goal.shape_of-free
-shape_of-free c = c.loop-row.invariant.1.same
 
 pub returns : goal.returns
 returns c = each-end _ _ _ c.loop-row-test.false c.loop-row.invariant

@@ -1,6 +1,4 @@
 -- The loop's invariant: what is left to store gives what was to store.
-use Prim.Native.Nat.{◌-◌}
-use lib.ListN.{length}
 use Rattle.base_lists.specs.steps.Cut.{cut_at}
 use Rattle.base_lists.proofs.Stores.{Each}
 use Rattle.reduce_added.specs.Copies.{copies_of}

@@ -1,11 +1,7 @@
-use mathlib.Core.Path.{refl, sym, ◌∙◌}
+use mathlib.Core.Path.{sym, ◌∙◌}
 use native.Mathlib.Omega.{arith}
-use borrow.Author.Rules.{rules}
 use Rattle.reduce_added.proofs.Fitting.{end_falls, end-past, end-next, ends-done}
 use Rattle.reduce_added.proofs.groups.ends_fit.Goals as goal
-
-pub loop-byte-init : goal.loop-byte-init
-loop-byte-init c = (search rules, refl)
 
 pub returns-then-end-start : goal.returns-then-end-start
 returns-then-end-start c =

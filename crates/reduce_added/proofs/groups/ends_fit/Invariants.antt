@@ -1,6 +1,6 @@
 -- The loop's invariant: the ends from here on decide.
 use mathlib.Core.Path.{◌≡◌}
-use Prim.Native.Nat.{◌-◌, ◌≤◌}
+use Prim.Native.Nat.{◌≤◌}
 use lib.ListN.{length, drop}
 use Rattle.reduce_added.specs.steps.Fit.{ends_fit}
 use Rattle.reduce_added.proofs.groups.ends_fit.Given as goal

@@ -1,5 +1,5 @@
 -- The loop's invariant: joining what is left gives what joining all gives.
-use Prim.Native.Nat.{◌-◌, ◌≤◌}
+use Prim.Native.Nat.{◌≤◌}
 use lib.ListN.{length}
 use Rattle.reduce_added.proofs.Joining.{JoinsFrom}
 use Rattle.reduce_added.proofs.groups.join_rows.Given as goal

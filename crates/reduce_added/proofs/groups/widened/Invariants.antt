@@ -1,6 +1,5 @@
 -- The loop's invariant: the first i are the members.
 use mathlib.Core.Path.{◌≡◌}
-use Prim.Native.Nat.{◌-◌, ◌≤◌}
 use lib.ListN.{length, take}
 use Rattle.reduce_added.proofs.groups.widened.Given as goal
 

@@ -1,11 +1,8 @@
 use native.Mathlib.Omega.{arith}
-use Rattle.base_lists.proofs.Stores.{each_start, each_part, each-end, each-room}
+use Rattle.base_lists.proofs.Stores.{each_part, each-end, each-room}
 use Rattle.reduce_added.specs.Pairs.{mandatory_one}
 use Rattle.reduce_added.proofs.Pairing.{mandatory-most}
 use Rattle.reduce_added.proofs.pairs.mandatory.Goals as goal
-
-pub loop-row-init : goal.loop-row-init
-loop-row-init c = each_start _ _ _ _
 
 pub list_one-at-requires : goal.list_one-at-requires
 list_one-at-requires c =
@@ -17,9 +14,6 @@ pub loop-row-preserved : goal.loop-row-preserved
 loop-row-preserved c =
     let l = c.loop-row in
     each_part _ _ l.row-index 0 c.loop-row-test.true l.invariant c.list_one-at.ensures
-
-pub shape_of-list : goal.shape_of-list
-shape_of-list c = c.loop-row.invariant.1.same
 
 pub returns : goal.returns
 returns c = each-end _ _ _ c.loop-row-test.false c.loop-row.invariant

@@ -1,6 +1,4 @@
 -- The loop's invariant: what is left to store gives what was to store.
-use Prim.Native.Nat.{◌-◌}
-use lib.ListN.{length}
 use Rattle.base_lists.proofs.Stores.{Each}
 use Rattle.reduce_added.specs.Pairs.{mandatory_one}
 use Rattle.reduce_added.proofs.pairs.mandatory.Given as goal

@@ -1,6 +1,6 @@
 -- The loop's invariant: a chooser whose flag is zero has all its choices in the rows that are left.
 use mathlib.Core.Path.{◌≡◌}
-use Prim.Native.Nat.{◌-◌, ◌≤◌}
+use Prim.Native.Nat.{◌≤◌}
 use lib.ListN.{length}
 use Rattle.reduce_added.proofs.Pairing.{Passed}
 use Rattle.reduce_added.proofs.pairs.mark.Given as goal

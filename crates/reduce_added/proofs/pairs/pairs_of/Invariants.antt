@@ -1,5 +1,5 @@
 -- The loop's invariant: what is left to store gives what was to store.
-use Prim.Native.Nat.{◌-◌, ◌≤◌}
+use Prim.Native.Nat.{◌≤◌}
 use lib.ListN.{length, drop}
 use Rattle.base_lists.proofs.Stores.{Stores}
 use Rattle.reduce_added.specs.Pairs.{pairs_of}

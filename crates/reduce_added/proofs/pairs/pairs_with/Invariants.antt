@@ -1,5 +1,5 @@
 -- The loop's invariant: what is left to store gives what was to store.
-use Prim.Native.Nat.{◌-◌, ◌≤◌}
+use Prim.Native.Nat.{◌≤◌}
 use mathlib.Core.List.{map}
 use lib.ListN.{length, drop}
 use Rattle.base_lists.proofs.Stores.{Stores}

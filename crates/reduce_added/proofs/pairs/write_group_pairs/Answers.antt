@@ -1,11 +1,8 @@
-use Rattle.base_lists.proofs.Cut.{cuts_start, cuts_end}
+use Rattle.base_lists.proofs.Cut.{cuts_end}
 use Rattle.reduce_added.specs.Pairs.{pairs_of}
 use Rattle.reduce_added.proofs.Cutting.{turn}
 use borrow.Author.Rules.{rules}
 use Rattle.reduce_added.proofs.pairs.write_group_pairs.Goals as goal
-
-pub loop-byte-init : goal.loop-byte-init
-loop-byte-init c = cuts_start pairs_of _ _ _ _ c.requires.0
 
 pub offset_bounds-members-start : goal.offset_bounds-members-start
 offset_bounds-members-start c =

@@ -1,20 +1,11 @@
-use mathlib.Core.Path.{◌≡◌, refl, sym, ◌∙◌}
+use mathlib.Core.Path.{refl, ◌∙◌}
 use native.Mathlib.Omega.{arith}
 use Rattle.reduce_added.proofs.Pairing.{choosers-none, choosers-countable, choosers-part}
-use borrow.Author.Rules.{rules}
 use Rattle.reduce_added.proofs.pairs.write_mandatory_pairs.Goals as goal
 
 pub loop-chooser-init : goal.loop-chooser-init
 loop-chooser-init c =
     (refl, refl, c.named-2-1.given, c.mark.ensures, choosers-none _ _)
-
-pub slice_bounds-pairs_for-end : goal.slice_bounds-pairs_for-end
-slice_bounds-pairs_for-end c =
-    sym c.loop-chooser.invariant.2
-
-pub slice_bounds-pairs_for-end-in-loop-chooser : goal.slice_bounds-pairs_for-end-in-loop-chooser
-slice_bounds-pairs_for-end-in-loop-chooser c =
-    sym c.loop-chooser.invariant.0
 
 pub pairs_for-at-requires : goal.pairs_for-at-requires
 pairs_for-at-requires c =
@@ -26,13 +17,3 @@ pub loop-chooser-preserved : goal.loop-chooser-preserved
 loop-chooser-preserved c =
     let l = c.loop-chooser in
     (c.list-in-loop-chooser-1.given, c.free-1.given ∙ l.invariant.1, l.invariant.2, l.invariant.3, choosers-part _ l.chooser _ _ _ _ _ l.invariant.4 c.pairs_for-at.ensures)
-
-pub shape_of-free : goal.shape_of-free
-shape_of-free c =
-    c.loop-chooser.invariant.1
-
-pub returns : goal.returns
-returns c =
-    let l = c.loop-chooser in
-    let e : l.chooser ≡ c.args.choosers = omega arith in
-    rw e at l.invariant.4

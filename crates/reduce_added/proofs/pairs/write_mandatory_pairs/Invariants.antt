@@ -1,7 +1,6 @@
 -- The loop's invariant: the pairs of the choosers so far are written, and a chooser whose flag is zero has
 -- none.
 use mathlib.Core.Path.{◌≡◌}
-use Prim.Native.Nat.{◌-◌, ◌≤◌}
 use lib.ListN.{length}
 use Rattle.reduce_turn.specs.steps.Free.{Wrote}
 use Rattle.reduce_added.specs.Pairs.{mandatory_pairs}

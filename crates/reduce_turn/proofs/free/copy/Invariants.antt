@@ -1,6 +1,5 @@
 -- The loop's invariant: what is left to store gives what was to store.
-use Prim.Native.Nat.{◌-◌, ◌≤◌}
-use lib.ListN.{length, drop}
+use lib.ListN.{drop}
 use Rattle.base_lists.proofs.Stores.{Stores}
 use Rattle.reduce_turn.proofs.free.copy.Given as goal
 

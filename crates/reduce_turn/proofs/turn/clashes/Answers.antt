@@ -1,12 +1,7 @@
-use mathlib.Core.Path.{refl, sym, ◌∙◌}
-use native.Mathlib.Omega.{arith}
+use mathlib.Core.Path.{sym, ◌∙◌}
 use Rattle.base_lists.proofs.Keep.{any_here, any_on, any_none}
 use Rattle.reduce_turn.specs.Turn.{clashes_at}
-use borrow.Author.Rules.{rules}
 use Rattle.reduce_turn.proofs.turn.clashes.Goals as goal
-
-pub loop-row-init : goal.loop-row-init
-loop-row-init c = refl
 
 pub returns-then-clashes_at : goal.returns-then-clashes_at
 returns-then-clashes_at c =

@@ -1,7 +1,6 @@
 -- The loop's invariant: the answer from here is the answer from the start.
 use mathlib.Core.Path.{◌≡◌}
-use Prim.Native.Nat.{◌-◌, ◌≤◌}
-use lib.ListN.{length, drop}
+use lib.ListN.{drop}
 use Rattle.base_lists.specs.Keep.{any_of}
 use Rattle.reduce_turn.specs.Turn.{clashes_at}
 use Rattle.reduce_turn.proofs.turn.clashes.Given as goal

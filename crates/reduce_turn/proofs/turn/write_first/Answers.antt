@@ -6,12 +6,8 @@ use lib.ListN.{length}
 use lib.Seq.{sets}
 use Rattle.std.proofs.Math.Nat.{min_comm}
 use Rattle.reduce_turn.specs.Turn.{turned_rows}
-use Rattle.reduce_turn.proofs.Turning.{first-length, first-countable, first_rows, first-most}
+use Rattle.reduce_turn.proofs.Turning.{first-countable, first_rows, first-most}
 use Rattle.reduce_turn.proofs.turn.write_first.Goals as goal
-
-pub slice_bounds-write_turned-end : goal.slice_bounds-write_turned-end
-slice_bounds-write_turned-end c =
-    first-length c.args.rows.now _ (c.min-most.ensures ∙ min_comm _ 128)
 
 pub write_turned-requires : goal.write_turned-requires
 write_turned-requires c =

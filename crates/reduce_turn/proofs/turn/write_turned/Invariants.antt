@@ -1,6 +1,4 @@
 -- The loop's invariant: what is left to store gives what was to store.
-use Prim.Native.Nat.{◌-◌}
-use lib.ListN.{length}
 use Rattle.base_lists.proofs.Stores.{Each}
 use Rattle.reduce_turn.specs.Turn.{turned_one}
 use Rattle.reduce_turn.proofs.turn.write_turned.Given as goal
