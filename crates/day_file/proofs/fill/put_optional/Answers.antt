@@ -1,8 +1,7 @@
 use mathlib.Core.Path.{refl}
 use native.Mathlib.Omega.{arith}
 use lib.ListN.{length-set}
-use Rattle.base_lists.proofs.Flat.{fill_start, fill_next, fill_done}
-use borrow.Author.Rules.{rules}
+use Rattle.base_lists.proofs.Flat.{fill_start, fill_next}
 use Rattle.day_file.proofs.fill.put_optional.Goals as goal
 
 pub loop-i-init : goal.loop-i-init
@@ -12,7 +11,3 @@ loop-i-init c =
 pub loop-i-preserved : goal.loop-i-preserved
 loop-i-preserved c =
     (simp length-set c.loop-i.invariant.0, fill_next _ _ _ _ (omega arith) c.loop-i.invariant.1 (refl))
-
-pub returns : goal.returns
-returns c =
-    fill_done _ _ _ _ (omega arith) (omega arith) c.loop-i.invariant.1

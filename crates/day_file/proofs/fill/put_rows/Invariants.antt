@@ -1,6 +1,6 @@
 -- The loop's invariant: the first i entries are the file's.
 use mathlib.Core.Path.{◌≡◌}
-use Prim.Native.Nat.{◌+◌, ◌*◌, ◌-◌, ◌≤◌}
+use Prim.Native.Nat.{◌+◌, ◌*◌}
 use lib.ListN.{length, take}
 use Rattle.base_lists.specs.Flat.{list_below}
 use Rattle.day_file.specs.File.{row_at}

@@ -1,7 +1,6 @@
 use native.Mathlib.Omega.{arith}
-use Rattle.base_lists.proofs.Through.{all_none, all_done}
+use Rattle.base_lists.proofs.Through.{all_none}
 use Rattle.day_file.proofs.JudgeLaws.{rise-fails, rise-more}
-use borrow.Author.Rules.{rules}
 use Rattle.day_file.proofs.judge.levels_in.Goals as goal
 
 pub loop-i-init : goal.loop-i-init
@@ -15,7 +14,3 @@ returns-then-word_at c =
 pub loop-i-preserved : goal.loop-i-preserved
 loop-i-preserved c =
     rise-more _ _ _ c.word_at.ensures c.word_at-in-loop-i.ensures c.loop-i.invariant c.if-word_at.false
-
-pub returns : goal.returns
-returns c =
-    all_done _ _ _ (omega arith) (omega arith) c.loop-i.invariant

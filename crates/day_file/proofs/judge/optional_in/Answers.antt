@@ -1,9 +1,7 @@
 use mathlib.Core.Path.{sym}
-use native.Mathlib.Omega.{arith}
 use borrow.Author.Tests.{le-leb, lt-leb}
 use Rattle.base_lists.proofs.Below.{all_more, one-fails}
-use Rattle.base_lists.proofs.Through.{all_none, all_done}
-use borrow.Author.Rules.{rules}
+use Rattle.base_lists.proofs.Through.{all_none}
 use Rattle.day_file.proofs.judge.optional_in.Goals as goal
 
 pub loop-i-init : goal.loop-i-init
@@ -17,7 +15,3 @@ returns-then-file-i-gt1 c =
 pub loop-i-preserved : goal.loop-i-preserved
 loop-i-preserved c =
     all_more _ _ c.loop-i.invariant (le-leb _ _ c.if-file-i-gt1.false)
-
-pub returns : goal.returns
-returns c =
-    all_done _ _ _ (omega arith) (omega arith) c.loop-i.invariant

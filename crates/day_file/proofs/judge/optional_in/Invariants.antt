@@ -1,7 +1,7 @@
 -- The loop's invariant: the optional byte of every choice before i is 0 or 1.
 use mathlib.Core.Path.{◌≡◌}
 use mathlib.Core.Bool.{true}
-use Prim.Native.Nat.{◌+◌, ◌*◌, ◌-◌, ◌≤◌}
+use Prim.Native.Nat.{◌+◌, ◌*◌}
 use lib.Dec.{leb}
 use lib.ListN.{get_or}
 use Rattle.base_lists.specs.Below.{all_below}

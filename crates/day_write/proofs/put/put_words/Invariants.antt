@@ -1,6 +1,5 @@
 -- The loop's invariant: the first i words are put.
 use mathlib.Core.Path.{◌≡◌}
-use Prim.Native.Nat.{◌-◌, ◌≤◌}
 use lib.ListN.{length, get_or}
 use lib.Seq.{sets}
 use Rattle.base_lists.specs.Flat.{join_below}

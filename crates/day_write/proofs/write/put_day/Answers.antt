@@ -1,6 +1,5 @@
 -- Each part has room in the pool; the parts together are the day's bytes.
 use mathlib.Core.Path.{◌∙◌, ap}
-use native.Mathlib.Omega.{arith}
 use Prim.Native.Nat.{ℕ}
 use lib.ListN.{replicate}
 use Rattle.day_file.specs.FileDay.{parts, day}
@@ -8,10 +7,6 @@ use Rattle.day_file.proofs.CountLaws.{in_range}
 use Rattle.day_file.proofs.FileLaws.{lengths}
 use Rattle.day_write.proofs.WriteLaws.{choices-room, levels-room, preferences-room, rows-room, parts-put, rows_fit}
 use Rattle.day_write.proofs.write.put_day.Goals as goal
-
-pub put_head-requires : goal.put_head-requires
-put_head-requires c =
-    record { fact_1 = c.requires.fact_1; fact_2 = omega (arith, c.fill.auto.self, c.requires.fact_4) }
 
 pub put_choices-levels_at-requires : goal.put_choices-levels_at-requires
 put_choices-levels_at-requires c =
@@ -33,10 +28,6 @@ pub put_rows-requires : goal.put_rows-requires
 put_rows-requires c =
     let lists = (parts c.args.mins.now c.args.maxs.now c.args.optional.now c.args.levels.now c.args.preferences.now c.args.rows.now) in
     record { fact_1 = rows-room c.args.counts lists (lengths c.args.counts lists c.requires.fact_2) (in_range c.args.counts c.requires.fact_1) (c.put_words-rows_at.auto.pool ∙ c.put_words-preferences_at.auto.pool ∙ c.put_choices-levels_at.auto.pool ∙ c.put_head.auto.pool ∙ c.fill.auto.self ∙ c.requires.fact_4) c.put_choices-levels_at.ensures.fact_1 c.put_words-preferences_at.ensures.fact_1 c.put_words-rows_at.ensures.fact_1; fact_2 = rows_fit (day c.args.counts lists) c.requires.fact_1 c.requires.fact_3 }
-
-pub shape_of-pool : goal.shape_of-pool
-shape_of-pool c =
-    c.put_rows.auto.pool ∙ c.put_words-rows_at.auto.pool ∙ c.put_words-preferences_at.auto.pool ∙ c.put_choices-levels_at.auto.pool ∙ c.put_head.auto.pool ∙ c.fill.auto.self
 
 pub returns : goal.returns
 returns c =
