@@ -1,4 +1,4 @@
--- No two answers fit what `byte_word`, `word_of` and `rest_of` promise.
+-- No two answers fit what `word_of` and `rest_of` promise.
 use mathlib.Core.Path.{◌≡◌}
 use Prim.Native.Nat.{ℕ, ◌+◌, ◌-◌, ◌*◌}
 use Rattle.base_lists.proofs.Outcome.{no_two}

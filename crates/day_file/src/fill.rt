@@ -5,7 +5,6 @@ ghost use Rattle.base_lists.specs.Pool.{pad};
 ghost use Rattle.day_file.specs.File.{word_at, row_at};
 
 use super::word::{row_at, word_at};
-use base_pools::{clear_bytes, clear_numbers, clear_words};
 
 // Puts the n words that stand `step` bytes apart in the file into the front of a pool.
 fn put_words(file: &[u8], at: usize, step: usize, n: usize, pool: &mut [u16])
@@ -13,10 +12,8 @@ fn put_words(file: &[u8], at: usize, step: usize, n: usize, pool: &mut [u16])
     requires fact_2 { ((k : ℕ) → k < n → at + step * k + 1 < length file.now) }
     ensures { take n pool.new ≡ list_below n (λ k. word_at file.now (at + step * k)) }
 {
-    let mut i = 0;
-    while i < n {
+    for i in 0..n {
         pool[i] = word_at(file, at + step * i);
-        i += 1;
     }
 }
 
@@ -28,7 +25,7 @@ pub(crate) fn fill_words(file: &[u8], at: usize, step: usize, n: usize, pool: &m
         pool.new ≡ pad (length pool.old) words }
 {
     put_words(file, at, step, n, pool);
-    clear_words(&mut pool[n..]);
+    pool[n..].fill(0);
 }
 
 // Puts the optional bytes of n choices into the front of a pool.
@@ -37,10 +34,8 @@ fn put_optional(file: &[u8], n: usize, pool: &mut [u8])
     requires fact_2 { 11 + 5 * n ≤ length file.now }
     ensures { take n pool.new ≡ list_below n (λ k. get_or file.now (15 + 5 * k) 0) }
 {
-    let mut i = 0;
-    while i < n {
+    for i in 0..n {
         pool[i] = file[15 + 5 * i];
-        i += 1;
     }
 }
 
@@ -52,7 +47,7 @@ pub(crate) fn fill_optional(file: &[u8], n: usize, pool: &mut [u8])
         pool.new ≡ pad (length pool.old) flags }
 {
     put_optional(file, n, pool);
-    clear_bytes(&mut pool[n..]);
+    pool[n..].fill(0);
 }
 
 // Puts the n rows from a place of the file on into the front of a pool.
@@ -61,10 +56,8 @@ pub(crate) fn put_rows(file: &[u8], at: usize, n: usize, pool: &mut [u64])
     requires fact_2 { at + 6 * n ≤ length file.now }
     ensures { take n pool.new ≡ list_below n (λ k. row_at file.now (at + 6 * k)) }
 {
-    let mut i = 0;
-    while i < n {
+    for i in 0..n {
         pool[i] = row_at(file, at + 6 * i);
-        i += 1;
     }
 }
 
@@ -76,5 +69,5 @@ pub(crate) fn fill_rows(file: &[u8], at: usize, n: usize, pool: &mut [u64])
         pool.new ≡ pad (length pool.old) rows }
 {
     put_rows(file, at, n, pool);
-    clear_numbers(&mut pool[n..]);
+    pool[n..].fill(0);
 }

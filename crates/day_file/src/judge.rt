@@ -8,7 +8,6 @@ ghost use Rattle.day_file.specs.File.{word_at, row_at};
 
 use super::fill::put_rows;
 use super::word::word_at;
-use base_pools::zeros::given_rows;
 use day_rows::check::{Checked, Counts, Takes};
 
 // Whether the optional byte of each of n choices is 0 or 1.
@@ -16,12 +15,10 @@ pub(crate) fn optional_in(file: &[u8], n: usize) -> bool
     requires { 11 + 5 * n ≤ length file.now }
     ensures { result ≡ all_below n (λ i. leb (get_or file.now (15 + 5 * i) 0) 1) }
 {
-    let mut i = 0;
-    while i < n {
+    for i in 0..n {
         if 1 < file[15 + 5 * i] {
             return false;
         }
-        i += 1;
     }
     true
 }
@@ -32,12 +29,10 @@ pub(crate) fn levels_in(file: &[u8], at: usize, n: usize) -> bool
     ensures { let bytes = file.now in
         result ≡ all_below (n - 1) (λ i. ltb (word_at bytes (at + 2 * i)) (word_at bytes (at + 2 * (i + 1)))) }
 {
-    let mut i = 0;
-    while i + 1 < n {
+    for i in 0..n.saturating_sub(1) {
         if word_at(file, at + 2 * (i + 1)) <= word_at(file, at + 2 * i) {
             return false;
         }
-        i += 1;
     }
     true
 }
@@ -47,12 +42,10 @@ pub(crate) fn preferences_in(file: &[u8], at: usize, n: usize, last: u16) -> boo
     requires { at + 2 * n ≤ length file.now }
     ensures { result ≡ all_below n (λ i. leb (word_at file.now (at + 2 * i)) last) }
 {
-    let mut i = 0;
-    while i < n {
+    for i in 0..n {
         if last < word_at(file, at + 2 * i) {
             return false;
         }
-        i += 1;
     }
     true
 }
@@ -64,7 +57,7 @@ pub(crate) fn rows_in(file: &[u8], at: usize, n: usize, counts: Counts) -> Check
     ensures { let rows = list_below n (λ i. row_at file.now (at + 6 * i)) in
         checked_tells result ≡ rows_judged counts takes.Given rows }
 {
-    let mut rows = given_rows();
+    let mut rows = [0u64; 128];
     put_rows(file, at, n, &mut rows);
     day_rows::check::check_each_row(counts, Takes::Given, &rows[..n])
 }

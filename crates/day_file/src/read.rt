@@ -26,8 +26,8 @@ fn length_in(file: &[u8]) -> usize
     requires { 4 ≤ length file.now }
     ensures { result ≡ length_in file.now }
 {
-    let high = word_at(file, 0) as usize;
-    let low = word_at(file, 2) as usize;
+    let high = usize::from(word_at(file, 0));
+    let low = usize::from(word_at(file, 2));
     high * 65536 + low
 }
 
@@ -37,11 +37,11 @@ fn counts_in(file: &[u8]) -> FileCounts
     ensures { result ≡ counts_in file.now }
 {
     FileCounts {
-        choices: file[5] as usize,
-        slots: file[6] as usize,
-        choosers: file[7] as usize,
-        levels: file[8] as usize,
-        rows: word_at(file, 9) as usize,
+        choices: usize::from(file[5]),
+        slots: usize::from(file[6]),
+        choosers: usize::from(file[7]),
+        levels: usize::from(file[8]),
+        rows: usize::from(word_at(file, 9)),
     }
 }
 

@@ -2,7 +2,7 @@
 ghost use Rattle.std.specs.Prelude.{◌≡◌, ◌+◌, ◌<◌, length};
 ghost use Rattle.day_file.specs.File.{word_at, sign_bit_flipped, row_at};
 
-use super::file_words::{byte_word, word_of};
+use super::file_words::word_of;
 use day_rows::row::Row;
 
 // The length of the longest file: every count at its limit.
@@ -33,8 +33,8 @@ pub(crate) fn row_at(file: &[u8], at: usize) -> u64
     ensures { result ≡ row_at file.now at }
 {
     let row = Row {
-        kind: byte_word(file[at]),
-        left: byte_word(file[at + 1]),
+        kind: u16::from(file[at]),
+        left: u16::from(file[at + 1]),
         right: word_at(file, at + 2),
         extra: flip_sign_bit(word_at(file, at + 4)),
     };

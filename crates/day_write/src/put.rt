@@ -80,10 +80,8 @@ pub(crate) fn put_choices(
     ensures fact_2 { let bytes = join_below n (choice_bytes mins.now maxs.now optional.now) in
         pool.new ≡ sets pool.old 11 bytes }
 {
-    let mut i = 0;
-    while i < n {
+    for i in 0..n {
         put_choice(pool, 11 + 5 * i, mins[i], maxs[i], optional[i]);
-        i += 1;
     }
     11 + 5 * n
 }
@@ -98,10 +96,8 @@ pub(crate) fn put_words(pool: &mut [u8], at: usize, words: &[u16]) -> usize
         let bytes = join_below (length list) (λ i. word (get_or list i 0)) in
         pool.new ≡ sets pool.old at bytes }
 {
-    let mut i = 0;
-    while i < words.len() {
-        put_word(pool, at + 2 * i, words[i]);
-        i += 1;
+    for (i, word) in words.iter().enumerate() {
+        put_word(pool, at + 2 * i, *word);
     }
     at + 2 * words.len()
 }
@@ -117,10 +113,8 @@ pub(crate) fn put_rows(pool: &mut [u8], at: usize, rows: &[u64]) -> usize
         let bytes = join_below (length list) (λ i. row_bytes (get_or list i 0)) in
         pool.new ≡ sets pool.old at bytes }
 {
-    let mut i = 0;
-    while i < rows.len() {
-        put_row(pool, at + 6 * i, rows[i]);
-        i += 1;
+    for (i, row) in rows.iter().enumerate() {
+        put_row(pool, at + 6 * i, *row);
     }
     at + 6 * rows.len()
 }

@@ -8,7 +8,6 @@ ghost use Rattle.day_file.specs.File.{bytes_of, longest_file};
 ghost use Rattle.day_write.specs.Calls.{lists_judged, day_judged, written_tells, write_of};
 
 use super::put::{put_choices, put_head, put_rows, put_words};
-use base_pools::clear_bytes;
 use day_file::counts::FileCounts;
 use day_file::word::LONGEST_FILE;
 use day_rows::check::{Checked, Takes};
@@ -134,7 +133,7 @@ fn put_day(
         let file = bytes_of (day counts lists) in
         outcome (done result) pool.new ≡ outcome (done (length file)) (pad longest_file file) }
 {
-    clear_bytes(pool);
+    pool.fill(0);
     put_head(pool, counts);
     let levels_at = put_choices(pool, counts.choices, mins, maxs, optional);
     let preferences_at = put_words(pool, levels_at, levels);

@@ -63,11 +63,11 @@ fn reduce_rows(counts: Counts, rows: &[u64], pool: &mut [u64]) -> Reduced
     let total = expand::expand(counts, rows, pool);
     let too_many = total > MOST_ROWS;
     if too_many {
-        base_pools::clear_numbers(pool);
+        pool.fill(0);
         return Reduced::Refused(Refusal::TooMany);
     }
     let count = reduce_sort::sort_unique(&mut pool[..total]);
-    base_pools::clear_numbers(&mut pool[total..]);
+    pool[total..].fill(0);
     let clash = turn::clashes(rows);
     Reduced::Rows(Reduction { count, clash })
 }

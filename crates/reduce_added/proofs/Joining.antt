@@ -2,12 +2,12 @@
 use mathlib.Core.Path.{◌≡◌, refl, sym, ◌∙◌, ap}
 use mathlib.Core.Bool.{Bool, cond}
 use mathlib.Core.List.{List, [], ◌∷◌, ◌++◌, flat_map}
-use Prim.Native.Nat.{ℕ, ◌+◌, ◌≤◌, ◌<◌, min}
+use Prim.Native.Nat.{ℕ, ◌+◌, ◌≤◌, ◌<◌}
 use native.Mathlib.Numerals.{add-one}
 use native.Mathlib.Omega.{arith}
 use borrow.Author.Tests.{eq-eqb, ne_eqb}
-use lib.ListN.{length, get_or, set, take, drop, drop_of_length-le}
-use lib.Seq.{drop-cons, take-suc, take-suc-set, take_all}
+use lib.ListN.{length, get_or, drop, drop_of_length-le}
+use lib.Seq.{drop-cons}
 use Rattle.day_rows.specs.Row.{row_of}
 use Rattle.day_rows.specs.declared.row.Row.{Row}
 use Rattle.reduce_union_find.specs.declared.UnionFind.{UnionFind}
@@ -85,22 +85,3 @@ module _ (choices : ℕ) (rows : List ℕ) where
         let a : refusal_tells why ≡ done (length (same_choosers choices rows)) = ap (λ (g : GroupsOutcome). g.answer) w in
         let z : ◌≡◌ {A = ℕ} 0 1 = cc in
         absurd (omega arith)
-
--- a list read into another place by place
-pub widen_more : (members choices : List ℕ) (i v : ℕ) → i < length choices → i < length members → v ≡ get_or members i 0 → take i choices ≡ take i members
-    → take (i + 1) (set choices i v) ≡ take (i + 1) members
-widen_more members choices i v h g e s =
-    rw (add-one i) (take-suc-set choices i v h ∙ rw (s, e) (sym (take-suc members i 0 g)))
-
-pub widen_all : (members choices : List ℕ) (i : ℕ) → length choices ≡ 64 → length members ≡ 64 → 64 ≤ i → take i choices ≡ take i members → choices ≡ members
-widen_all members choices i c m h s = sym (take_all i choices (omega arith)) ∙ s ∙ take_all i members (omega arith)
-
--- the groups are written, and then their members widened
-module _ (choices : ℕ) (rows : List ℕ) {most : ℕ} (m : most ≡ min 64 choices) where
-  pub known-few : most ≤ 64
-  known-few = omega arith
-
-  pub groups_widened : {count : ℕ} {bytes members ends : List ℕ} → outcome (done count) (bytes, ends) ≡ groups_written (same_choosers most rows) → members ≡ bytes
-      → outcome (done count) (members, ends) ≡ groups_written (same_choosers (min 64 choices) rows)
-  groups_widened {count} {bytes} {members} {ends} told w =
-      ap (λ (l : List ℕ). outcome (done count) (l, ends)) w ∙ told ∙ ap (λ (n : ℕ). groups_written (same_choosers n rows)) m

@@ -157,9 +157,6 @@ pub record Passed (rows named : List ℕ) (i : ℕ) : Type 0 where
   pub left : (chooser : ℕ) → chooser < length named → get_or named chooser 0 ≡ 0 → mandatory (drop i rows) chooser ≡ mandatory rows chooser
 
 module _ (rows : List ℕ) where
-  pub pass-start : (named : List ℕ) → Passed rows named 0
-  pass-start named = record { left = λ chooser h z. refl }
-
   pub pass_step : (named named' : List ℕ) (i : ℕ) → i < length rows → length named' ≡ length named → MarkedOne (get_or rows i 0) named named' → Passed rows named i
       → Passed rows named' (i + 1)
   pass_step named named' i b l m p =

@@ -18,14 +18,7 @@ use reduce_turn::free;
 fn holds(group: &[u16], choice: u16) -> bool
     ensures { result ≡ any_of (eqb choice) group.now }
 {
-    let mut i = 0;
-    while i < group.len() {
-        if group[i] == choice {
-            return true;
-        }
-        i += 1;
-    }
-    false
+    group.contains(&choice)
 }
 
 // Writes the row for one member, unless it is the row's own choice; the answer is the place after it.
@@ -50,10 +43,8 @@ fn copies_in(row: Row, group: &[u16], free: &mut [u64], from: usize) -> usize
         return from;
     }
     let mut at = from;
-    let mut i = 0;
-    while i < group.len() {
-        at = copy_to(row, group[i], free, at);
-        i += 1;
+    for member in group {
+        at = copy_to(row, *member, free, at);
     }
     at
 }
@@ -67,12 +58,10 @@ fn copies_of(row: Row, members: &[u16], ends: &[u8], free: &mut [u64], from: usi
 {
     let mut at = from;
     let mut start = 0;
-    let mut i = 0;
-    while i < ends.len() {
-        let end = base_pools::wide(ends[i]);
+    for byte in ends {
+        let end = usize::from(*byte);
         at = copies_in(row, &members[start..end], free, at);
         start = end;
-        i += 1;
     }
     at
 }
@@ -81,10 +70,7 @@ fn copies_of(row: Row, members: &[u16], ends: &[u8], free: &mut [u64], from: usi
 fn is_copied(kind: u16) -> bool
     ensures { result ≡ is_copied kind }
 {
-    if kind == Kind::CHOOSER_IS_IN_CHOICE {
-        return true;
-    }
-    kind == Kind::CHOOSER_IS_NOT_IN_CHOICE
+    kind == Kind::CHOOSER_IS_IN_CHOICE || kind == Kind::CHOOSER_IS_NOT_IN_CHOICE
 }
 
 // Writes the copies of one row, none for other kinds; the answer is the place after them.
@@ -109,10 +95,8 @@ fn write_copies(rows: &[u64], members: &[u16], ends: &[u8], free: &mut [u64]) ->
         Wrote free.old 0 (copies_all groups rows.now) result free.new }
 {
     let mut at = 0;
-    let mut i = 0;
-    while i < rows.len() {
-        at = copies_for(rows[i], members, ends, free, at);
-        i += 1;
+    for row in rows {
+        at = copies_for(*row, members, ends, free, at);
     }
     at
 }

@@ -6,7 +6,6 @@ ghost use Rattle.reduce_union_find.specs.Groups.{groups_written};
 ghost use Rattle.reduce_added.specs.Groups.{join_one, joins, same_choosers};
 ghost use Rattle.reduce_added.specs.steps.Fit.{ends_fit, groups_fit};
 
-use base_pools::zeros::{bytes, words};
 use day_rows::kind::Kind;
 use day_rows::row::Row;
 use reduce_union_find::{Grouped, UnionFind};
@@ -27,7 +26,9 @@ fn join_one(choices: usize, state: UnionFind, number: u64) -> UnionFind
     if row.kind != Kind::CHOICES_HAVE_SAME_CHOOSERS {
         return state;
     }
-    let joined = state.join(choices, row.left as usize, row.right as usize);
+    let left = usize::from(row.left);
+    let right = usize::from(row.right);
+    let joined = state.join(choices, left, right);
     joined.state
 }
 
@@ -36,10 +37,8 @@ fn join_rows(choices: usize, rows: &[u64]) -> UnionFind
     ensures { result ≡ join_all choices (joins rows.now) }
 {
     let mut state = UnionFind::new();
-    let mut i = 0;
-    while i < rows.len() {
-        state = join_one(choices, state, rows[i]);
-        i += 1;
+    for row in rows {
+        state = join_one(choices, state, *row);
     }
     state
 }
@@ -57,33 +56,14 @@ fn write_groups(choices: usize, rows: &[u64], members: &mut [u8], ends: &mut [u8
     count
 }
 
-// A byte as a choice's number.
-fn choice(byte: u8) -> u16
-    ensures { result ≡ byte }
-{
-    byte as u16
-}
-
 // The members of groups as numbers of choices.
 fn widened(members: &[u8]) -> [u16; 64]
     requires { length members.now ≡ 64 }
     ensures { result ≡ members.now }
 {
-    let mut choices = words();
-    let mut i = 0;
-    while i < 64 {
-        choices[i] = choice(members[i]);
-        i += 1;
-    }
-    choices
-}
-
-// How many choices are grouped: as many as a day may have.
-fn known(choices: usize) -> usize
-    ensures { result ≡ min 64 choices }
-{
-    if 64 < choices {
-        return 64;
+    let mut choices = [0u16; 64];
+    for (i, member) in members.iter().enumerate() {
+        choices[i] = u16::from(*member);
     }
     choices
 }
@@ -93,9 +73,9 @@ pub fn groups(choices: usize, rows: &[u64]) -> SameChoosers
     ensures { let groups = same_choosers (min 64 choices) rows.now in
         outcome (done result.count) (result.members, result.ends) ≡ groups_written groups }
 {
-    let mut narrow = bytes();
-    let mut ends = bytes();
-    let count = write_groups(known(choices), rows, &mut narrow, &mut ends);
+    let mut narrow = [0u8; 64];
+    let mut ends = [0u8; 64];
+    let count = write_groups(choices.min(64), rows, &mut narrow, &mut ends);
     let members = widened(&narrow);
     SameChoosers {
         members,
@@ -109,9 +89,8 @@ fn ends_fit(ends: &[u8], size: usize) -> bool
     ensures { result ≡ ends_fit 0 ends.now size }
 {
     let mut start = 0;
-    let mut i = 0;
-    while i < ends.len() {
-        let end = base_pools::wide(ends[i]);
+    for byte in ends {
+        let end = usize::from(*byte);
         if end < start {
             return false;
         }
@@ -119,7 +98,6 @@ fn ends_fit(ends: &[u8], size: usize) -> bool
             return false;
         }
         start = end;
-        i += 1;
     }
     true
 }

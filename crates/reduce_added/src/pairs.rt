@@ -19,11 +19,9 @@ fn pairs_with(left: u16, list: &[u16], free: &mut [u64], from: usize) -> usize
     ensures { Wrote free.old from (map (pair_row left) list.now) result free.new }
 {
     let mut at = from;
-    let mut j = 0;
-    while j < list.len() {
-        free::put(free, at, pair_row(left, list[j]).number());
+    for right in list {
+        free::put(free, at, pair_row(left, *right).number());
         at += 1;
-        j += 1;
     }
     at
 }
@@ -34,11 +32,8 @@ fn pairs_of(list: &[u16], free: &mut [u64], from: usize) -> usize
     ensures { Wrote free.old from (pairs_of list.now) result free.new }
 {
     let mut at = from;
-    let mut i = 0;
-    while i < list.len() {
-        let left = list[i];
-        i += 1;
-        at = pairs_with(left, &list[i..], free, at);
+    for (i, left) in list.iter().enumerate() {
+        at = pairs_with(*left, &list[i + 1..], free, at);
     }
     at
 }
@@ -52,12 +47,10 @@ fn write_group_pairs(members: &[u16], ends: &[u8], free: &mut [u64]) -> usize
 {
     let mut at = 0;
     let mut start = 0;
-    let mut i = 0;
-    while i < ends.len() {
-        let end = base_pools::wide(ends[i]);
+    for byte in ends {
+        let end = usize::from(*byte);
         at = pairs_of(&members[start..end], free, at);
         start = end;
-        i += 1;
     }
     at
 }
@@ -84,7 +77,7 @@ fn list_one(number: u64, chooser: usize, list: &mut [u16], at: usize) -> usize
     if row.kind != Kind::CHOOSER_IS_IN_CHOICE {
         return at;
     }
-    if (row.left as usize) != chooser {
+    if usize::from(row.left) != chooser {
         return at;
     }
     list[at] = row.right;
@@ -98,26 +91,10 @@ fn mandatory(rows: &[u64], chooser: usize, list: &mut [u16]) -> usize
     ensures { Wrote list.old 0 (mandatory rows.now chooser) result list.new }
 {
     let mut at = 0;
-    let mut i = 0;
-    while i < rows.len() {
-        at = list_one(rows[i], chooser, list, at);
-        i += 1;
+    for row in rows {
+        at = list_one(*row, chooser, list, at);
     }
     at
-}
-
-// A pool with room for the choices of all given rows.
-fn no_choices() -> [u16; 128]
-    ensures { 128 ≡ length result }
-{
-    [0u16; 128]
-}
-
-// A pool of a flag for each chooser, none of them named yet.
-fn no_flags() -> [u8; 256]
-    ensures { 256 ≡ length result }
-{
-    [0u8; 256]
 }
 
 // Marks the chooser of a row, if it is of kind 11.
@@ -128,7 +105,7 @@ fn mark_one(number: u64, named: &mut [u8])
     if row.kind != Kind::CHOOSER_IS_IN_CHOICE {
         return;
     }
-    let at = row.left as usize;
+    let at = usize::from(row.left);
     if at >= named.len() {
         return;
     }
@@ -139,10 +116,8 @@ fn mark_one(number: u64, named: &mut [u8])
 fn mark(rows: &[u64], named: &mut [u8])
     ensures { Marked rows.now named.new }
 {
-    let mut i = 0;
-    while i < rows.len() {
-        mark_one(rows[i], named);
-        i += 1;
+    for row in rows {
+        mark_one(*row, named);
     }
 }
 
@@ -185,14 +160,12 @@ fn write_mandatory_pairs(choosers: usize, rows: &[u64], free: &mut [u64]) -> usi
     requires { (length rows.now ≤ 128) × Countable 0 (mandatory_pairs rows.now choosers) }
     ensures { Wrote free.old 0 (mandatory_pairs rows.now choosers) result free.new }
 {
-    let mut list = no_choices();
-    let mut named = no_flags();
+    let mut list = [0u16; 128];
+    let mut named = [0u8; 256];
     mark(rows, &mut named);
     let mut at = 0;
-    let mut chooser = 0;
-    while chooser < choosers {
+    for chooser in 0..choosers {
         at = pairs_for(rows, &named, chooser, &mut list, free, at);
-        chooser += 1;
     }
     at
 }

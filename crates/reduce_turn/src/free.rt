@@ -16,10 +16,8 @@ pub fn put(free: &mut [u64], at: usize, row: u64)
 pub fn copy(rows: &[u64], free: &mut [u64]) -> usize
     ensures { Wrote free.old 0 rows.now result free.new }
 {
-    let mut i = 0;
-    while i < rows.len() {
-        put(free, i, rows[i]);
-        i += 1;
+    for (i, row) in rows.iter().enumerate() {
+        put(free, i, *row);
     }
-    i
+    rows.len()
 }

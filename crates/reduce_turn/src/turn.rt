@@ -66,22 +66,10 @@ fn write_turned(rows: &[u64], free: &mut [u64]) -> usize
     ensures { Wrote free.old 0 (turned_rows rows.now) result free.new }
 {
     let mut at = 0;
-    let mut i = 0;
-    while i < rows.len() {
-        at = turn_one(rows[i], free, at);
-        i += 1;
+    for row in rows {
+        at = turn_one(*row, free, at);
     }
     at
-}
-
-// How many of so many rows are turned: as many as may be given.
-fn given(count: usize) -> usize
-    ensures { result ≡ min 128 count }
-{
-    if 128 < count {
-        return 128;
-    }
-    count
 }
 
 // Writes the first 128 rows turned; the answer is how many they are.
@@ -89,7 +77,7 @@ fn write_first(rows: &[u64], free: &mut [u64]) -> usize
     ensures { let turned = turned_rows (take 128 rows.now) in
         (result ≤ 128) × Wrote free.old 0 turned result free.new }
 {
-    let most = given(rows.len());
+    let most = rows.len().min(128);
     write_turned(&rows[..most], free)
 }
 
@@ -117,12 +105,10 @@ fn clashes_at(number: u64) -> bool
 pub fn clashes(rows: &[u64]) -> bool
     ensures { result ≡ clash_of rows.now }
 {
-    let mut i = 0;
-    while i < rows.len() {
-        if clashes_at(rows[i]) {
+    for row in rows {
+        if clashes_at(*row) {
             return true;
         }
-        i += 1;
     }
     false
 }

@@ -12,11 +12,5 @@ pub fn is_higher(height: u8, other: u8) -> bool
 pub fn raised(height: u8, under: u8) -> u8
     ensures { result ≡ max height (min (under + 1) 255) }
 {
-    if under < height {
-        return height;
-    }
-    if under == 255 {
-        return 255;
-    }
-    under + 1
+    height.max(under.saturating_add(1))
 }

@@ -12,8 +12,6 @@ ghost use Rattle.reduce_union_find.specs.State.{fresh, state, sound_at, taken, c
 ghost use Rattle.reduce_union_find.specs.steps.Climbs.{Ends, Climbs, Fits};
 ghost use Rattle.reduce_union_find.specs.Groups.{groups_written, groups_of};
 
-use base_pools::zeros::bytes;
-use base_pools::{clear_bytes, wide};
 use day_rows::refusal::Refusal;
 use heights::{is_higher, raised};
 
@@ -161,12 +159,10 @@ fn is_taken<'a>(parents: &'a [u8], heights: &'a [u8], choices: usize) -> bool
     if choices > 64 {
         return false;
     }
-    let mut i = 0;
-    while i < choices {
+    for i in 0..choices {
         if !is_sound(parents, heights, choices, i) {
             return false;
         }
-        i += 1;
     }
     true
 }
@@ -181,7 +177,7 @@ fn is_sound<'a>(parents: &'a [u8], heights: &'a [u8], choices: usize, i: usize) 
     if height > 64 {
         return false;
     }
-    let parent = wide(parents[i]);
+    let parent = usize::from(parents[i]);
     if parent == 255 {
         return true;
     }
@@ -196,7 +192,7 @@ fn climb(parents: &[u8], element: usize, steps: usize) -> usize
     requires { (length parents.now ≡ 64) × (Ends (64 - steps) parents.now element) }
     ensures { result ≡ climb (64 - steps) parents.now element }
 {
-    let parent = wide(parents[element]);
+    let parent = usize::from(parents[element]);
     if parent == 255 {
         return element;
     }
@@ -208,11 +204,9 @@ fn roots_of(parents: &[u8], choices: usize) -> [u8; 64]
     requires { Climbs parents.now choices }
     ensures { (length result ≡ 64) × ((i : ℕ) → i < choices → get_or result i 0 ≡ climb 64 parents.now i) }
 {
-    let mut roots = bytes();
-    let mut i = 0;
-    while i < choices {
+    let mut roots = [0u8; 64];
+    for i in 0..choices {
         roots[i] = climb(parents, i, 0) as u8;
-        i += 1;
     }
     roots
 }
@@ -225,8 +219,8 @@ fn write_all(parents: &[u8], choices: usize, members: &mut [u8], ends: &mut [u8]
         outcome (done result) (members.new, ends.new) ≡ groups_written groups }
 {
     let roots = roots_of(parents, choices);
-    clear_bytes(members);
-    clear_bytes(ends);
+    members.fill(0);
+    ends.fill(0);
     write_groups(&roots, choices, members, ends)
 }
 
@@ -238,14 +232,12 @@ fn write_groups(roots: &[u8], choices: usize, members: &mut [u8], ends: &mut [u8
 {
     let mut count = 0;
     let mut at = 0;
-    let mut root = 0;
-    while root < choices {
-        if wide(roots[root]) == root {
+    for root in 0..choices {
+        if usize::from(roots[root]) == root {
             at = write_class(roots, choices, root, members, at);
             ends[count] = at as u8;
             count += 1;
         }
-        root += 1;
     }
     count
 }
@@ -258,13 +250,11 @@ fn write_class(roots: &[u8], choices: usize, root: usize, members: &mut [u8], fr
         (result ≡ from + length group) × (members.new ≡ sets members.old from group) }
 {
     let mut at = from;
-    let mut i = 0;
-    while i < choices {
-        if wide(roots[i]) == root {
+    for i in 0..choices {
+        if usize::from(roots[i]) == root {
             members[at] = i as u8;
             at += 1;
         }
-        i += 1;
     }
     at
 }

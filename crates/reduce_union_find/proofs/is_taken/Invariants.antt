@@ -1,14 +1,10 @@
 -- The invariant: every entry passed is sound.
 use mathlib.Core.Path.{◌≡◌}
 use mathlib.Core.Bool.{true}
-use Prim.Native.Nat.{◌≤◌, ◌-◌}
 use Rattle.base_lists.specs.Below.{all_below}
 use Rattle.reduce_union_find.specs.State.{state, sound_at}
 use Rattle.reduce_union_find.proofs.is_taken.Given as goal
 
 abbrev pub invariant-loop-i : goal.invariant-loop-i
 invariant-loop-i l =
-    (l.i ≤ l.choices) × (l.choices ≤ 64) × (all_below l.i (sound_at l.choices (state l.parents l.heights)) ≡ true)
-
-abbrev pub decreases-loop-i : goal.decreases-loop-i
-decreases-loop-i l = l.choices - l.i
+    all_below l.i (sound_at l.choices (state l.parents l.heights)) ≡ true

@@ -9,7 +9,7 @@ pub write_groups-requires : goal.write_groups-requires
 write_groups-requires c =
     let a = c in
     let h = a.requires in
-    (c.roots_of-roots.ensures.0, h.0.small, cleared _ a.args.members.now c.clear_bytes.ensures h.1, cleared _ a.args.ends.now c.clear_bytes-2.ensures h.2)
+    (c.roots_of-roots.ensures.0, h.0.small, cleared _ a.args.members.now (c.fill.ensures.after (λ _ e. e)) h.1, cleared _ a.args.ends.now (c.fill-2.ensures.after (λ _ e. e)) h.2)
 
 pub returns : goal.returns
 returns c =

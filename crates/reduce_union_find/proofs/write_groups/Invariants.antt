@@ -1,5 +1,4 @@
 -- The invariant: the classes of the roots passed stand in the pools.
-use Prim.Native.Nat.{◌≤◌, ◌-◌}
 use lib.ListN.{get_or}
 use Rattle.base_lists.proofs.Group.{groups_to}
 use Rattle.reduce_union_find.proofs.Writing.{Written}
@@ -7,7 +6,4 @@ use Rattle.reduce_union_find.proofs.write_groups.Given as goal
 
 abbrev pub invariant-loop-root : goal.invariant-loop-root
 invariant-loop-root l =
-    (l.root ≤ l.choices) × Written (groups_to l.root l.choices (λ k. get_or l.roots k 0)) l.count l.at l.members l.ends
-
-abbrev pub decreases-loop-root : goal.decreases-loop-root
-decreases-loop-root l = l.choices - l.root
+    Written (groups_to l.root l.choices (λ k. get_or l.roots k 0)) l.count l.at l.members l.ends

@@ -1,30 +1,13 @@
 use mathlib.Core.Path.{refl}
 use native.Mathlib.Omega.{arith}
 use lib.ListN.{length-set}
-use Rattle.base_lists.proofs.Flat.{fill_start, fill_next, fill_done}
-use borrow.Author.Rules.{rules}
+use Rattle.base_lists.proofs.Flat.{fill_start, fill_next}
 use Rattle.day_file.proofs.fill.put_words.Goals as goal
 
 pub loop-i-init : goal.loop-i-init
 loop-i-init c =
-    (search rules, refl, fill_start _)
-
-pub overflow_mul-step : goal.overflow_mul-step
-overflow_mul-step c =
-    omega (arith, c.requires.fact_2 c.loop-i.i c.loop-i-test.true)
-
-pub overflow_add-at : goal.overflow_add-at
-overflow_add-at c =
-    omega (arith, c.requires.fact_2 c.loop-i.i c.loop-i-test.true)
-
-pub word_at-requires : goal.word_at-requires
-word_at-requires c =
-    c.requires.fact_2 c.loop-i.i c.loop-i-test.true
+    (refl, fill_start _)
 
 pub loop-i-preserved : goal.loop-i-preserved
 loop-i-preserved c =
-    (omega arith, simp length-set c.loop-i.invariant.1, fill_next _ _ _ _ (omega arith) c.loop-i.invariant.2 c.word_at.ensures)
-
-pub returns : goal.returns
-returns c =
-    fill_done _ _ _ _ c.loop-i.invariant.0 c.loop-i-test.false c.loop-i.invariant.2
+    (simp length-set c.loop-i.invariant.0, fill_next _ _ _ _ (omega arith) c.loop-i.invariant.1 c.word_at.ensures)

@@ -1,15 +1,10 @@
 -- The loop's invariant: every level before i is under the next.
 use mathlib.Core.Path.{◌≡◌}
 use mathlib.Core.Bool.{true}
-use Prim.Native.Nat.{◌-◌, ◌≤◌}
 use Rattle.base_lists.specs.Below.{all_below}
 use Rattle.day_file.proofs.JudgeLaws.{rising}
 use Rattle.day_file.proofs.judge.levels_in.Given as goal
 
 abbrev pub invariant-loop-i : goal.invariant-loop-i
 invariant-loop-i l =
-    (l.i ≤ l.n - 1) × (all_below l.i (rising l.file l.at) ≡ true)
-
-abbrev pub decreases-loop-i : goal.decreases-loop-i
-decreases-loop-i l =
-    l.n - 1 - l.i
+    all_below l.i (rising l.file l.at) ≡ true

@@ -1,13 +1,12 @@
 use mathlib.Core.Path.{sym}
 use borrow.Author.Tests.{le-leb, lt-leb}
 use Rattle.base_lists.proofs.Below.{all_more, one-fails}
-use Rattle.base_lists.proofs.Through.{all_none, all_done}
-use borrow.Author.Rules.{rules}
+use Rattle.base_lists.proofs.Through.{all_none}
 use Rattle.day_file.proofs.judge.optional_in.Goals as goal
 
 pub loop-i-init : goal.loop-i-init
 loop-i-init c =
-    (search rules, all_none _)
+    all_none _
 
 pub returns-then-file-i-gt1 : goal.returns-then-file-i-gt1
 returns-then-file-i-gt1 c =
@@ -15,8 +14,4 @@ returns-then-file-i-gt1 c =
 
 pub loop-i-preserved : goal.loop-i-preserved
 loop-i-preserved c =
-    (search rules, all_more _ _ c.loop-i.invariant.1 (le-leb _ _ c.if-file-i-gt1.false))
-
-pub returns : goal.returns
-returns c =
-    all_done _ _ _ c.loop-i.invariant.0 c.loop-i-test.false c.loop-i.invariant.1
+    all_more _ _ c.loop-i.invariant (le-leb _ _ c.if-file-i-gt1.false)

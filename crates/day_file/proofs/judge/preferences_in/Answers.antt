@@ -1,11 +1,10 @@
-use Rattle.base_lists.proofs.Through.{all_none, all_done}
+use Rattle.base_lists.proofs.Through.{all_none}
 use Rattle.day_file.proofs.JudgeLaws.{under-fails, under_more}
-use borrow.Author.Rules.{rules}
 use Rattle.day_file.proofs.judge.preferences_in.Goals as goal
 
 pub loop-i-init : goal.loop-i-init
 loop-i-init c =
-    (search rules, all_none _)
+    all_none _
 
 pub returns-then-last-word_at : goal.returns-then-last-word_at
 returns-then-last-word_at c =
@@ -13,8 +12,4 @@ returns-then-last-word_at c =
 
 pub loop-i-preserved : goal.loop-i-preserved
 loop-i-preserved c =
-    (search rules, under_more _ _ _ _ c.word_at.ensures c.loop-i.invariant.1 c.if-last-word_at.false)
-
-pub returns : goal.returns
-returns c =
-    all_done _ _ _ c.loop-i.invariant.0 c.loop-i-test.false c.loop-i.invariant.1
+    under_more _ _ _ _ c.word_at.ensures c.loop-i.invariant c.if-last-word_at.false

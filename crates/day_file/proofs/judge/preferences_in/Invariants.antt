@@ -1,15 +1,10 @@
 -- The loop's invariant: every preference before i is at most the last level.
 use mathlib.Core.Path.{◌≡◌}
 use mathlib.Core.Bool.{true}
-use Prim.Native.Nat.{◌-◌, ◌≤◌}
 use Rattle.base_lists.specs.Below.{all_below}
 use Rattle.day_file.proofs.JudgeLaws.{under}
 use Rattle.day_file.proofs.judge.preferences_in.Given as goal
 
 abbrev pub invariant-loop-i : goal.invariant-loop-i
 invariant-loop-i l =
-    (l.i ≤ l.n) × (all_below l.i (under l.file l.at l.last) ≡ true)
-
-abbrev pub decreases-loop-i : goal.decreases-loop-i
-decreases-loop-i l =
-    l.n - l.i
+    all_below l.i (under l.file l.at l.last) ≡ true

@@ -1,7 +1,6 @@
 -- Each part stands within the file and fits its pool; the six lists padded are the pools.
-use Rattle.day_file.proofs.CountLaws.{within, in_range, mins_ask, maxs_ask, optional_ask, levels_ask, preferences_ask, rows_ask, full}
+use Rattle.day_file.proofs.CountLaws.{within, mins_ask, maxs_ask, optional_ask, levels_ask, preferences_ask, rows_ask, full}
 use Rattle.day_file.proofs.ReadLaws.{filled}
-use native.Mathlib.Omega.{arith}
 use Rattle.day_file.proofs.read.fill_pools.Goals as goal
 
 pub fill_words-requires : goal.fill_words-requires
@@ -23,10 +22,6 @@ pub fill_words-requires-3 : goal.fill_words-requires-3
 fill_words-requires-3 c =
     let a = levels_ask (within c.requires.fact_1 c.requires.fact_2 c.places-places.ensures) (full _ _ _ _ _ _ c.requires.fact_3).levels-full in
     record { fact_1 = a.0; fact_2 = a.1 }
-
-pub overflow_mul-counts : goal.overflow_mul-counts
-overflow_mul-counts c =
-    let h = (in_range _ c.requires.fact_1).cells in record { fits = omega arith }
 
 pub fill_words-requires-4 : goal.fill_words-requires-4
 fill_words-requires-4 c =

@@ -1,35 +1,16 @@
 -- Each return is one law: the tests before it held, and its own did not.
-use Rattle.day_file.proofs.CountLaws.{within, levels-within, preferences-within, rows_ask}
+use Rattle.day_file.proofs.CountLaws.{within, rows_ask}
 use Rattle.day_file.proofs.ReadLaws.{body_optional, body_levels, body_preference, body_rows}
 use mathlib.Core.Path.{refl}
-use native.Mathlib.Omega.{arith}
 use Rattle.day_file.proofs.read.judge_body.Goals as goal
 
 pub returns-then-not-optional_in : goal.returns-then-not-optional_in
 returns-then-not-optional_in c =
     body_optional _ _ c.places-places.ensures c.optional_in.ensures (c.if-not-optional_in.true)
 
-pub levels_in-requires : goal.levels_in-requires
-levels_in-requires c =
-    levels-within (within c.requires.fact_1 c.requires.fact_2 c.places-places.ensures)
-
 pub returns-then-not-levels_in : goal.returns-then-not-levels_in
 returns-then-not-levels_in c =
     body_levels _ _ c.places-places.ensures c.optional_in.ensures (c.if-not-optional_in.false) c.levels_in.ensures (c.if-not-levels_in.true)
-
-pub overflow_sub-places : goal.overflow_sub-places
-overflow_sub-places c =
-    let w = within c.requires.fact_1 c.requires.fact_2 c.places-places.ensures in
-    omega arith
-
-pub word_at-last-requires : goal.word_at-last-requires
-word_at-last-requires c =
-    let w = within c.requires.fact_1 c.requires.fact_2 c.places-places.ensures in
-    omega arith
-
-pub preferences_in-requires : goal.preferences_in-requires
-preferences_in-requires c =
-    preferences-within (within c.requires.fact_1 c.requires.fact_2 c.places-places.ensures)
 
 pub returns-then-not-preferences_in : goal.returns-then-not-preferences_in
 returns-then-not-preferences_in c =

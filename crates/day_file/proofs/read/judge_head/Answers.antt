@@ -19,10 +19,6 @@ pub returns-then-not-in_range : goal.returns-then-not-in_range
 returns-then-not-in_range c =
     head-counts _ c.if-file-lt11.false c.length_in.ensures (c.if-length_in-rest_of.false ∙ c.rest_of.ensures) c.if-file-ne1.false c.counts_in-counts.ensures c.in_range.ensures (c.if-not-in_range.true)
 
-pub places-requires : goal.places-requires
-places-requires c =
-    sym c.in_range.ensures ∙ c.if-not-in_range.false
-
 pub returns-then-places-file : goal.returns-then-places-file
 returns-then-places-file c =
     head_body _ c.if-file-lt11.false c.length_in.ensures (c.if-length_in-rest_of.false ∙ c.rest_of.ensures) c.if-file-ne1.false c.counts_in-counts.ensures c.in_range.ensures (c.if-not-in_range.false) c.places.ensures c.if-places-file.true

@@ -1,6 +1,5 @@
 -- The loop's invariant: the first i choices are put.
 use mathlib.Core.Path.{◌≡◌}
-use Prim.Native.Nat.{◌-◌, ◌≤◌}
 use lib.ListN.{length}
 use lib.Seq.{sets}
 use Rattle.base_lists.specs.Flat.{join_below}
@@ -9,8 +8,4 @@ use Rattle.day_write.proofs.put.put_choices.Given as goal
 
 abbrev pub invariant-loop-i : goal.invariant-loop-i
 invariant-loop-i l =
-    (l.i ≤ l.n) × (length l.pool ≡ length l.initial.pool) × (l.pool ≡ sets l.initial.pool 11 (join_below l.i (choice_bytes l.mins l.maxs l.optional)))
-
-abbrev pub decreases-loop-i : goal.decreases-loop-i
-decreases-loop-i l =
-    l.n - l.i
+    (length l.pool ≡ length l.initial.pool) × (l.pool ≡ sets l.initial.pool 11 (join_below l.i (choice_bytes l.mins l.maxs l.optional)))

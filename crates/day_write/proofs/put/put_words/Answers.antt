@@ -1,21 +1,15 @@
 use mathlib.Core.Path.{refl, ◌∙◌}
-use native.Mathlib.Omega.{arith}
 use lib.ListN.{get_or}
-use Rattle.base_lists.proofs.Stores.{sets-start, sets_join, sets-done}
+use Rattle.base_lists.proofs.Stores.{sets-start, sets_join}
 use Rattle.day_file.specs.File.{word}
 use Rattle.day_file.proofs.FileLaws.{length-word}
-use borrow.Author.Rules.{rules}
 use Rattle.day_write.proofs.put.put_words.Goals as goal
 
 pub loop-i-init : goal.loop-i-init
 loop-i-init c =
-    (search rules, refl, sets-start _ _ _)
+    (refl, sets-start _ _ _)
 
 pub loop-i-preserved : goal.loop-i-preserved
 loop-i-preserved c =
     let s = c in
-    (omega arith, c.put_word.auto.pool ∙ c.loop-i.invariant.1, sets_join 2 (λ k. word (get_or s.args.words.now k 0)) (λ k. length-word (get_or s.args.words.now k 0)) _ _ _ c.loop-i.invariant.2 c.put_word.ensures)
-
-pub returns : goal.returns
-returns c =
-    record { fact_1 = search rules; fact_2 = sets-done _ _ _ _ _ c.loop-i.invariant.0 c.loop-i-test.false c.loop-i.invariant.2 }
+    (c.put_word.auto.pool ∙ c.loop-i.invariant.0, sets_join 2 (λ k. word (get_or s.args.words.now k 0)) (λ k. length-word (get_or s.args.words.now k 0)) _ _ _ c.loop-i.invariant.1 c.put_word.ensures)

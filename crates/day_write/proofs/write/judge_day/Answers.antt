@@ -1,15 +1,10 @@
 -- Each return is one law: the tests before it held, and its own did not.
-use mathlib.Core.Path.{sym, ◌∙◌}
 use Rattle.day_write.proofs.WriteLaws.{day-count, day-lengths, day-room, day-lists}
 use Rattle.day_write.proofs.write.judge_day.Goals as goal
 
 pub returns-then-not-in_range : goal.returns-then-not-in_range
 returns-then-not-in_range c =
     day-count _ _ c.in_range.ensures (c.if-not-in_range.true)
-
-pub lengths_keep-requires : goal.lengths_keep-requires
-lengths_keep-requires c =
-    sym c.in_range.ensures ∙ c.if-not-in_range.false
 
 pub returns-then-not-lengths_keep : goal.returns-then-not-lengths_keep
 returns-then-not-lengths_keep c =

@@ -1,5 +1,5 @@
 -- The turned rows are read back from where they were written.
-use Rattle.reduce.proofs.Filling.{turned-is, turned-within, turned-length, given-turned, filled-expanded}
+use Rattle.reduce.proofs.Filling.{turned-is, turned-within, turned-length, filled-expanded}
 use Rattle.reduce.proofs.expand.expand.Goals as goal
 
 pub slice_bounds-numbers-end : goal.slice_bounds-numbers-end
@@ -9,10 +9,6 @@ slice_bounds-numbers-end c =
 pub slice_bounds-add_following-end : goal.slice_bounds-add_following-end
 slice_bounds-add_following-end c =
     turned-length c.args.rows.now _ _ c.requires.rows_in c.rows_to_pair-turned.ensures
-
-pub add_following-requires : goal.add_following-requires
-add_following-requires c =
-    given-turned c.args.rows.now _ _ c.requires.rows_in c.rows_to_pair-turned.ensures c.requires
 
 pub returns : goal.returns
 returns c =

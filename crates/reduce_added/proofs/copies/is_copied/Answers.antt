@@ -5,5 +5,5 @@ use Rattle.reduce_added.proofs.copies.is_copied.Goals as goal
 pub returns-then-kind-eq-CHOOSER_IS_IN_CHOICE : goal.returns-then-kind-eq-CHOOSER_IS_IN_CHOICE
 returns-then-kind-eq-CHOOSER_IS_IN_CHOICE c = copied_11 _ c.if-kind-eq-CHOOSER_IS_IN_CHOICE.true
 
-pub returns : goal.returns
-returns c = copied-other _ c.if-kind-eq-CHOOSER_IS_IN_CHOICE.false
+pub returns-else-kind-eq-CHOOSER_IS_IN_CHOICE : goal.returns-else-kind-eq-CHOOSER_IS_IN_CHOICE
+returns-else-kind-eq-CHOOSER_IS_IN_CHOICE c = copied-other _ c.if-kind-eq-CHOOSER_IS_IN_CHOICE.false

@@ -6,4 +6,4 @@ pub returns-then-row-ne-CHOICES_HAVE_SAME_CHOOSERS : goal.returns-then-row-ne-CH
 returns-then-row-ne-CHOICES_HAVE_SAME_CHOOSERS c = unjoined _ _ _ c.of-row.ensures c.if-row-ne-CHOICES_HAVE_SAME_CHOOSERS.true
 
 pub returns : goal.returns
-returns c = joined-row _ _ _ c.of-row.ensures c.if-row-ne-CHOICES_HAVE_SAME_CHOOSERS.false c.join-joined.ensures
+returns c = joined-row _ _ _ c.of-row.ensures c.if-row-ne-CHOICES_HAVE_SAME_CHOOSERS.false (rw (c.from-left.ensures, c.from-right.ensures) at c.join-joined.ensures)

@@ -8,8 +8,8 @@ returns-then-row-ne-CHOOSER_IS_IN_CHOICE c =
 
 pub returns-then-at-named : goal.returns-then-at-named
 returns-then-at-named c =
-    mark_past _ c.of-row.ensures c.args.named.now c.if-row-ne-CHOOSER_IS_IN_CHOICE.false c.if-at-named.true
+    mark_past _ c.of-row.ensures c.args.named.now c.if-row-ne-CHOOSER_IS_IN_CHOICE.false (rw c.from-at.ensures at c.if-at-named.true)
 
 pub returns : goal.returns
 returns c =
-    mark_set _ c.of-row.ensures c.args.named.now c.if-row-ne-CHOOSER_IS_IN_CHOICE.false c.if-at-named.false
+    rw c.from-at.ensures (mark_set _ c.of-row.ensures c.args.named.now c.if-row-ne-CHOOSER_IS_IN_CHOICE.false (rw c.from-at.ensures at c.if-at-named.false))

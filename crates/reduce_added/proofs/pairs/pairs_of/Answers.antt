@@ -1,26 +1,19 @@
 use native.Mathlib.Omega.{arith}
-use Rattle.base_lists.proofs.Stores.{stores-start, stores-end}
+use Rattle.base_lists.proofs.Stores.{stores-end}
 use Rattle.reduce_added.proofs.Pairing.{pairs-part, pairs-room, pairs_end}
-use borrow.Author.Rules.{rules}
 use Rattle.reduce_added.proofs.pairs.pairs_of.Goals as goal
-
-pub loop-i-init : goal.loop-i-init
-loop-i-init c = (search rules, stores-start _ _ _)
 
 pub pairs_with-at-requires : goal.pairs_with-at-requires
 pairs_with-at-requires c =
     let l = c.loop-i in
-    omega (arith, pairs-room c.args.list.now l.i c.loop-i-test.true, l.invariant.1.counted, c.requires)
+    omega (arith, pairs-room c.args.list.now l.i c.loop-i-test.true, l.invariant.counted, c.requires)
 
 pub loop-i-preserved : goal.loop-i-preserved
 loop-i-preserved c =
     let l = c.loop-i in
-    (omega arith, pairs-part _ l.i c.loop-i-test.true l.invariant.1 c.pairs_with-at.ensures)
-
-pub shape_of-free : goal.shape_of-free
-shape_of-free c = c.loop-i.invariant.1.same
+    pairs-part _ l.i c.loop-i-test.true l.invariant c.pairs_with-at.ensures
 
 pub returns : goal.returns
 returns c =
     let l = c.loop-i in
-    stores-end (rw (pairs_end _ l.i c.loop-i-test.false) at l.invariant.1)
+    stores-end (rw (pairs_end _ l.i c.loop-i-test.false) at l.invariant)

@@ -1,13 +1,9 @@
 -- The loop's invariant: what is left to store gives what was to store.
-use Prim.Native.Nat.{◌-◌, ◌≤◌}
 use mathlib.Core.List.{map}
-use lib.ListN.{length, drop}
+use lib.ListN.{drop}
 use Rattle.base_lists.proofs.Stores.{Stores}
 use Rattle.reduce_added.specs.Pairs.{pair_row}
 use Rattle.reduce_added.proofs.pairs.pairs_with.Given as goal
 
-abbrev pub invariant-loop-j : goal.invariant-loop-j
-invariant-loop-j l = (l.j ≤ length l.list) × Stores l.initial.free l.from (map (pair_row l.left) l.list) l.free l.at (map (pair_row l.left) (drop l.j l.list))
-
-abbrev pub decreases-loop-j : goal.decreases-loop-j
-decreases-loop-j l = length l.list - l.j
+abbrev pub invariant-loop-right : goal.invariant-loop-right
+invariant-loop-right l = Stores l.initial.free l.from (map (pair_row l.left) l.list) l.free l.at (map (pair_row l.left) (drop l.right-index l.list))

@@ -1,13 +1,8 @@
 -- The loop's invariant: what is left to store gives what was to store. The needs stand in the code's order;
 -- those of a turn are told by the law of `Cutting`.
-use Prim.Native.Nat.{◌-◌}
-use lib.ListN.{length}
 use Rattle.base_lists.proofs.Cut.{Cuts}
 use Rattle.reduce_added.specs.Pairs.{pairs_of}
 use Rattle.reduce_added.proofs.pairs.write_group_pairs.Given as goal
 
-abbrev pub invariant-loop-i : goal.invariant-loop-i
-invariant-loop-i l = Cuts pairs_of l.ends l.members l.initial.free 0 l.free l.at l.start l.i
-
-abbrev pub decreases-loop-i : goal.decreases-loop-i
-decreases-loop-i l = length l.ends - l.i
+abbrev pub invariant-loop-byte : goal.invariant-loop-byte
+invariant-loop-byte l = Cuts pairs_of l.ends l.members l.initial.free 0 l.free l.at l.start l.byte-index

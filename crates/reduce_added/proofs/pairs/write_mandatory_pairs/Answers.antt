@@ -1,42 +1,19 @@
-use mathlib.Core.Path.{◌≡◌, refl, sym, ◌∙◌}
+use mathlib.Core.Path.{refl, ◌∙◌}
 use native.Mathlib.Omega.{arith}
 use Rattle.reduce_added.proofs.Pairing.{choosers-none, choosers-countable, choosers-part}
-use borrow.Author.Rules.{rules}
 use Rattle.reduce_added.proofs.pairs.write_mandatory_pairs.Goals as goal
-
-pub slice_bounds-mark-end : goal.slice_bounds-mark-end
-slice_bounds-mark-end c =
-    c.no_flags-named.ensures
 
 pub loop-chooser-init : goal.loop-chooser-init
 loop-chooser-init c =
-    (search rules, sym c.no_choices-list.ensures, refl, c.named-2-1.given, c.mark.ensures, choosers-none _ _)
-
-pub slice_bounds-pairs_for-end : goal.slice_bounds-pairs_for-end
-slice_bounds-pairs_for-end c =
-    sym c.loop-chooser.invariant.3
-
-pub slice_bounds-pairs_for-end-in-loop-chooser : goal.slice_bounds-pairs_for-end-in-loop-chooser
-slice_bounds-pairs_for-end-in-loop-chooser c =
-    sym c.loop-chooser.invariant.1
+    (refl, refl, c.named-2-1.given, c.mark.ensures, choosers-none _ _)
 
 pub pairs_for-at-requires : goal.pairs_for-at-requires
 pairs_for-at-requires c =
     let s = c in
     let l = c.loop-chooser in
-    (omega (arith, s.requires.0, l.invariant.1), l.invariant.4, choosers-countable s.args.rows.now l.chooser _ _ _ c.loop-chooser-test.true l.invariant.5.0 s.requires.1)
+    (omega (arith, s.requires.0, l.invariant.0), l.invariant.3, choosers-countable s.args.rows.now l.chooser _ _ _ c.loop-chooser-test.true l.invariant.4.0 s.requires.1)
 
 pub loop-chooser-preserved : goal.loop-chooser-preserved
 loop-chooser-preserved c =
     let l = c.loop-chooser in
-    (omega arith, c.list-in-loop-chooser-1.given, c.free-1.given ∙ l.invariant.2, l.invariant.3, l.invariant.4, choosers-part _ l.chooser _ _ _ _ _ l.invariant.5 c.pairs_for-at.ensures)
-
-pub shape_of-free : goal.shape_of-free
-shape_of-free c =
-    c.loop-chooser.invariant.2
-
-pub returns : goal.returns
-returns c =
-    let l = c.loop-chooser in
-    let e : l.chooser ≡ c.args.choosers = omega arith in
-    rw e at l.invariant.5
+    (c.list-in-loop-chooser-1.given, c.free-1.given ∙ l.invariant.1, l.invariant.2, l.invariant.3, choosers-part _ l.chooser _ _ _ _ _ l.invariant.4 c.pairs_for-at.ensures)

@@ -1,7 +1,6 @@
 -- The loop's invariant: the pairs of the choosers so far are written, and a chooser whose flag is zero has
 -- none.
 use mathlib.Core.Path.{◌≡◌}
-use Prim.Native.Nat.{◌-◌, ◌≤◌}
 use lib.ListN.{length}
 use Rattle.reduce_turn.specs.steps.Free.{Wrote}
 use Rattle.reduce_added.specs.Pairs.{mandatory_pairs}
@@ -9,7 +8,4 @@ use Rattle.reduce_added.specs.steps.Marks.{Marked}
 use Rattle.reduce_added.proofs.pairs.write_mandatory_pairs.Given as goal
 
 abbrev pub invariant-loop-chooser : goal.invariant-loop-chooser
-invariant-loop-chooser l = (l.chooser ≤ l.choosers) × (length l.list ≡ 128) × (length l.free ≡ length l.initial.free) × (length l.named ≡ 256) × Marked l.rows l.named × Wrote l.initial.free 0 (mandatory_pairs l.rows l.chooser) l.at l.free
-
-abbrev pub decreases-loop-chooser : goal.decreases-loop-chooser
-decreases-loop-chooser l = l.choosers - l.chooser
+invariant-loop-chooser l = (length l.list ≡ 128) × (length l.free ≡ length l.initial.free) × (length l.named ≡ 256) × Marked l.rows l.named × Wrote l.initial.free 0 (mandatory_pairs l.rows l.chooser) l.at l.free

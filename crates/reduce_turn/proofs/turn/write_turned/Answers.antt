@@ -1,22 +1,16 @@
-use Rattle.base_lists.proofs.Stores.{each_start, each_part, each-end, each-count}
+use Rattle.base_lists.proofs.Stores.{each_part, each-end, each-count}
 use Rattle.reduce_turn.specs.Turn.{turned_one}
 use Rattle.reduce_turn.proofs.turn.write_turned.Goals as goal
 
-pub loop-i-init : goal.loop-i-init
-loop-i-init c = each_start turned_one _ _ _
-
 pub turn_one-at-requires : goal.turn_one-at-requires
 turn_one-at-requires c =
-    let l = c.loop-i in
-    each-count turned_one _ l.i 0 _ c.loop-i-test.true l.invariant c.requires
+    let l = c.loop-row in
+    each-count turned_one _ l.row-index 0 _ c.loop-row-test.true l.invariant c.requires
 
-pub loop-i-preserved : goal.loop-i-preserved
-loop-i-preserved c =
-    let l = c.loop-i in
-    each_part turned_one _ l.i 0 c.loop-i-test.true l.invariant c.turn_one-at.ensures
-
-pub shape_of-free : goal.shape_of-free
-shape_of-free c = c.loop-i.invariant.1.same
+pub loop-row-preserved : goal.loop-row-preserved
+loop-row-preserved c =
+    let l = c.loop-row in
+    each_part turned_one _ l.row-index 0 c.loop-row-test.true l.invariant c.turn_one-at.ensures
 
 pub returns : goal.returns
-returns c = each-end turned_one _ _ c.loop-i-test.false c.loop-i.invariant
+returns c = each-end turned_one _ _ c.loop-row-test.false c.loop-row.invariant

@@ -5,9 +5,6 @@ use Rattle.reduce_union_find.proofs.Root.{find_untaken, find_out, find_root, roo
 use borrow.Author.Rules.{rules}
 use Rattle.reduce_union_find.proofs.UnionFind.find.Goals as goal
 
-pub is_taken-requires : goal.is_taken-requires
-is_taken-requires c = (search rules, search rules)
-
 pub returns-then-not-is_taken : goal.returns-then-not-is_taken
 returns-then-not-is_taken c = sym (find_untaken _ _ _ (sym c.is_taken.ensures ∙ c.if-not-is_taken.true))
 

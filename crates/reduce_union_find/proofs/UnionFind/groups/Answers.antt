@@ -5,9 +5,6 @@ use Rattle.reduce_union_find.proofs.Grouping.{groups_untaken, groups-members, gr
 use borrow.Author.Rules.{rules}
 use Rattle.reduce_union_find.proofs.UnionFind.groups.Goals as goal
 
-pub is_taken-requires : goal.is_taken-requires
-is_taken-requires c = (search rules, search rules)
-
 pub returns-then-not-is_taken : goal.returns-then-not-is_taken
 returns-then-not-is_taken c = sym (groups_untaken _ _ _ _ (sym c.is_taken.ensures ∙ c.if-not-is_taken.true))
 
@@ -19,12 +16,6 @@ returns-then-ends-ne64 c = sym (groups-ends _ _ _ _ (sym c.is_taken.ensures ∙ 
 
 pub write_all-requires : goal.write_all-requires
 write_all-requires c = (taken_climbs _ _ (search rules) (sym c.is_taken.ensures ∙ c.if-not-is_taken.false), c.if-members-ne64.false, c.if-ends-ne64.false)
-
-pub shape_of-members : goal.shape_of-members
-shape_of-members c = c.write_all.auto.members
-
-pub shape_of-ends : goal.shape_of-ends
-shape_of-ends c = c.write_all.auto.ends
 
 pub returns : goal.returns
 returns c =

@@ -6,9 +6,6 @@ use Rattle.reduce_union_find.proofs.Linking.{join_untaken, join_left_out, join_r
 use borrow.Author.Rules.{rules}
 use Rattle.reduce_union_find.proofs.UnionFind.join.Goals as goal
 
-pub is_taken-requires : goal.is_taken-requires
-is_taken-requires c = (search rules, search rules)
-
 pub returns-then-not-is_taken : goal.returns-then-not-is_taken
 returns-then-not-is_taken c =
     c.refused.ensures ∙ sym (join_untaken _ _ _ _ (sym c.is_taken.ensures ∙ c.if-not-is_taken.true))

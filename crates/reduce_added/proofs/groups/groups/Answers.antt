@@ -1,7 +1,0 @@
--- The groups written are those of the first 64 choices.
-use Rattle.reduce_added.proofs.Joining.{groups_widened}
-use Rattle.reduce_added.proofs.groups.groups.Goals as goal
-
-pub returns : goal.returns
-returns c =
-    groups_widened _ _ c.known.ensures c.write_groups-count.ensures c.widened-members.ensures
