@@ -139,7 +139,7 @@ fn narrow_each(counts: Counts, row: Row, domains: &mut [u64; 64])
 pub fn narrow_by_limit(counts: Counts, number: u64, domains: &mut [u64; 64])
     ensures { domains.new ≡ limit_rule counts (row_of number) domains.old }
 {
-    let row = Row::of(number);
+    let row = Row::from(number);
     if 64 < counts.choices {
         return;
     }
