@@ -2,3 +2,4 @@
 pub mod Limits
 pub mod SlotRules
 pub mod Sums
+pub mod SumsLent

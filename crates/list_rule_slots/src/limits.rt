@@ -17,6 +17,7 @@ use list_domains::places::{is_only, kept};
 struct SlotCounts {
     must: usize,
     may: usize,
+    ghost few: { (must ≤ 64) × (may ≤ 64) },
 }
 
 // How many choices must stand in a slot, and how many may, in one pass over the choices.
@@ -71,7 +72,6 @@ fn op_can(op: u16, low: usize, high: usize, limit: usize) -> bool
 
 // What a row of kind 6 leaves of one domain, by the counts of its slot.
 fn limit_leaves(row: Row, counts: SlotCounts, domain: u64) -> u64
-    requires { (counts.must ≤ 64) × (counts.may ≤ 64) }
     ensures { result ≡ limit_leaves row counts.must counts.may domain }
 {
     let slot = row.left as usize;
@@ -96,7 +96,6 @@ fn limit_leaves(row: Row, counts: SlotCounts, domain: u64) -> u64
 // Whether a limit can be kept whichever one choice stands in the slot or elsewhere, so that the pass
 // over the domains can be spared.
 fn is_slack(row: Row, counts: SlotCounts) -> bool
-    requires { (counts.must ≤ 64) × (counts.may ≤ 64) }
     ensures { result ≡ limit_idle row counts.must counts.may }
 {
     let limit = row.right as usize;
@@ -139,7 +138,7 @@ fn narrow_each(counts: Counts, row: Row, domains: &mut [u64; 64])
 pub fn narrow_by_limit(counts: Counts, number: u64, domains: &mut [u64; 64])
     ensures { domains.new ≡ limit_rule counts (row_of number) domains.old }
 {
-    let row = Row::of(number);
+    let row = Row::from(number);
     if 64 < counts.choices {
         return;
     }

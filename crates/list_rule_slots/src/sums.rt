@@ -1,12 +1,15 @@
 // 'Each slot: sum of min <= H <= sum of max', as a rule that takes places away.
-ghost use Rattle.std.specs.Prelude.{◌≡◌, true, false, ℕ, ◌+◌, ◌≤◌, leb, length, get_or};
+ghost use Rattle.std.specs.Prelude.{◌≡◌, true, false, ◌+◌, ◌≤◌, leb, length};
 ghost use Rattle.list_domains.specs.steps.Domains.{settled, kept_places};
+ghost use Rattle.plan_check.specs.Day.{day_lent};
 ghost use Rattle.list_rule_slots.specs.steps.SlotRules.{certain, possible, slots_leave, in_order, sums_leave, each_left, slots_rule};
+ghost use Rattle.list_rule_slots.specs.steps.SumsLent.{must, may};
 
 use super::limits::between;
-use super::slot_sums::{add_choices, next_member};
+use super::slot_sums::{Sums, add_choices, next_member};
 use day_rows::check::Counts;
 use list_domains::places::{is_settled, kept};
+use plan_check::day::Day;
 
 // Whether two numbers together are at most a third: the second is taken from it, so that no sum can be too large.
 fn sum_fits(one: usize, other: usize, whole: usize) -> bool
@@ -19,14 +22,12 @@ fn sum_fits(one: usize, other: usize, whole: usize) -> bool
 }
 
 // Whether 'sum of min <= H <= sum of max' can hold of every slot, by what must and what may stand there.
-fn in_order(counts: Counts, musts: &[usize; 24], mays: &[usize; 24]) -> bool
+fn in_order(counts: Counts, sums: &Sums) -> bool
     requires { counts.slots ≤ 24 }
-    ensures { let must : ℕ → ℕ = λ slot. get_or musts.now slot 0 in
-        let may : ℕ → ℕ = λ slot. get_or mays.now slot 0 in
-        result ≡ in_order counts must may }
+    ensures { result ≡ in_order counts (must sums.now) (may sums.now) }
 {
     for slot in 0..counts.slots {
-        if !between(musts[slot], counts.choosers, mays[slot]) {
+        if !between(sums.musts[slot], counts.choosers, sums.mays[slot]) {
             return false;
         }
     }
@@ -52,20 +53,11 @@ fn slot_leaves(
 }
 
 // What every slot leaves of a free choice's domain: a slot that the domain hasn't takes nothing away.
-fn slots_leave(
-    counts: Counts,
-    musts: &[usize; 24],
-    mays: &[usize; 24],
-    least: usize,
-    most: usize,
-    domain: u64,
-) -> u64
-    requires { let must : ℕ → ℕ = λ slot. get_or musts.now slot 0 in
-        let may : ℕ → ℕ = λ slot. get_or mays.now slot 0 in
-        (counts.slots ≤ 24) × (settled domain ≡ false) × (in_order counts must may ≡ true) }
-    ensures { let must : ℕ → ℕ = λ slot. get_or musts.now slot 0 in
-        let may : ℕ → ℕ = λ slot. get_or mays.now slot 0 in
-        result ≡ slots_leave counts.choosers must may least most counts.slots domain }
+fn slots_leave(counts: Counts, sums: &Sums, least: usize, most: usize, domain: u64) -> u64
+    requires { (counts.slots ≤ 24) × (settled domain ≡ false)
+        × (in_order counts (must sums.now) (may sums.now) ≡ true) }
+    ensures { let choosers = counts.choosers in
+        result ≡ slots_leave choosers (must sums.now) (may sums.now) least most counts.slots domain }
 {
     let mut left = domain;
     let mut slot = next_member(counts.slots, domain, 0);
@@ -74,8 +66,8 @@ fn slots_leave(
         left = slot_leaves(
             counts.choosers,
             slot,
-            musts[slot],
-            mays[slot],
+            sums.musts[slot],
+            sums.mays[slot],
             least,
             most,
             left,
@@ -89,18 +81,13 @@ fn slots_leave(
 fn sums_leave(
     counts: Counts,
     ordered: bool,
-    musts: &[usize; 24],
-    mays: &[usize; 24],
+    sums: &Sums,
     least: usize,
     most: usize,
     domain: u64,
 ) -> u64
-    requires { let must : ℕ → ℕ = λ slot. get_or musts.now slot 0 in
-        let may : ℕ → ℕ = λ slot. get_or mays.now slot 0 in
-        (counts.slots ≤ 24) × (ordered ≡ in_order counts must may) }
-    ensures { let must : ℕ → ℕ = λ slot. get_or musts.now slot 0 in
-        let may : ℕ → ℕ = λ slot. get_or mays.now slot 0 in
-        result ≡ sums_leave counts must may least most domain }
+    requires { (counts.slots ≤ 24) × (ordered ≡ in_order counts (must sums.now) (may sums.now)) }
+    ensures { result ≡ sums_leave counts (must sums.now) (may sums.now) least most domain }
 {
     if !ordered {
         return 0;
@@ -108,32 +95,27 @@ fn sums_leave(
     if is_settled(domain) {
         return domain;
     }
-    slots_leave(counts, musts, mays, least, most, domain)
+    slots_leave(counts, sums, least, most, domain)
 }
 
 // Takes from every domain the places that the slots' sums leave to no plan.
-fn narrow_each_choice(
-    counts: Counts,
-    musts: &[usize; 24],
-    mays: &[usize; 24],
-    mins: &[u16],
-    maxs: &[u16],
-    domains: &mut [u64; 64],
-)
-    requires { (counts.choices ≤ 64) × (counts.slots ≤ 24)
-        × (length mins.now ≡ counts.choices) × (length maxs.now ≡ counts.choices) }
-    ensures { let must : ℕ → ℕ = λ slot. get_or musts.now slot 0 in
-        let may : ℕ → ℕ = λ slot. get_or mays.now slot 0 in
+fn narrow_each_choice(day: &Day, sums: &Sums, domains: &mut [u64; 64])
+    requires { let day = day_lent day.now in
+        (day.counts.choices ≤ 64) × (day.counts.slots ≤ 24)
+        × (length day.mins ≡ day.counts.choices) × (length day.maxs ≡ day.counts.choices) }
+    ensures { let day = day_lent day.now in
         let given = domains.old in
-        domains.new ≡ each_left counts mins.now maxs.now must may given }
+        domains.new ≡ each_left day.counts day.mins day.maxs (must sums.now) (may sums.now) given }
 {
-    let ordered = in_order(counts, musts, mays);
+    let counts = day.counts;
+    let mins = day.mins;
+    let maxs = day.maxs;
+    let ordered = in_order(counts, sums);
     for choice in 0..counts.choices {
         domains[choice] = sums_leave(
             counts,
             ordered,
-            musts,
-            mays,
+            sums,
             usize::from(mins[choice]),
             usize::from(maxs[choice]),
             domains[choice],
@@ -142,36 +124,42 @@ fn narrow_each_choice(
 }
 
 // Narrows every domain by every slot of the day: all sums are taken once, and then every domain is narrowed.
-fn narrow_by_each_slot(counts: Counts, mins: &[u16], maxs: &[u16], domains: &mut [u64; 64])
-    requires { (counts.choices ≤ 64) × (counts.slots ≤ 24)
-        × (length mins.now ≡ counts.choices) × (length maxs.now ≡ counts.choices) }
-    ensures { let given = domains.old in
-        let must = certain counts.choices mins.now given in
-        let may = possible counts.choices maxs.now given in
-        domains.new ≡ each_left counts mins.now maxs.now must may given }
+fn narrow_by_each_slot(day: &Day, domains: &mut [u64; 64])
+    requires { let day = day_lent day.now in
+        (day.counts.choices ≤ 64) × (day.counts.slots ≤ 24)
+        × (length day.mins ≡ day.counts.choices) × (length day.maxs ≡ day.counts.choices) }
+    ensures { let day = day_lent day.now in
+        let given = domains.old in
+        let sure = certain day.counts.choices day.mins given in
+        let able = possible day.counts.choices day.maxs given in
+        domains.new ≡ each_left day.counts day.mins day.maxs sure able given }
 {
-    let mut musts = [0usize; 24];
-    let mut mays = [0usize; 24];
-    add_choices(counts, mins, maxs, domains, &mut musts, &mut mays);
-    narrow_each_choice(counts, &musts, &mays, mins, maxs, domains);
+    let mut sums = Sums {
+        musts: [0usize; 24],
+        mays: [0usize; 24],
+    };
+    add_choices(day, domains, &mut sums);
+    narrow_each_choice(day, &sums, domains);
 }
 
 // Takes away every place that some slot's sums leave to no plan; what has no day's shape changes nothing.
-pub fn narrow_by_slots(counts: Counts, mins: &[u16], maxs: &[u16], domains: &mut [u64; 64])
-    ensures { let given = domains.old in
-        domains.new ≡ slots_rule counts mins.now maxs.now given }
+pub fn narrow_by_slots(day: &Day, domains: &mut [u64; 64])
+    ensures { let day = day_lent day.now in
+        let given = domains.old in
+        domains.new ≡ slots_rule day.counts day.mins day.maxs given }
 {
+    let counts = day.counts;
     if 64 < counts.choices {
         return;
     }
     if 24 < counts.slots {
         return;
     }
-    if mins.len() != counts.choices {
+    if day.mins.len() != counts.choices {
         return;
     }
-    if maxs.len() != counts.choices {
+    if day.maxs.len() != counts.choices {
         return;
     }
-    narrow_by_each_slot(counts, mins, maxs, domains);
+    narrow_by_each_slot(day, domains);
 }

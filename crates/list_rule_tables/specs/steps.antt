@@ -2,5 +2,6 @@
 pub mod Enough
 pub mod Figures
 pub mod Heaviest
+pub mod Lent
 pub mod Rule
 pub mod SettledFigures

@@ -1,12 +1,23 @@
 // Which choices are free, the first of them, and what each slot still lacks.
 ghost use Rattle.std.specs.Prelude.{◌≡◌, cond, ◌+◌, ◌-◌, ◌*◌, ◌≤◌, leb, length, get_or, replicate};
 ghost use Rattle.list_tables.specs.steps.Tables.{written};
+ghost use Rattle.plan_check.specs.Day.{day_lent};
 ghost use Rattle.list_rule_tables.specs.steps.Figures.{free_of, first_in, lacks_of, lacks_in};
 ghost use Rattle.list_rule_tables.specs.steps.SettledFigures.{changed_by};
 
 use base_choice_sets::set::with_if;
-use day_rows::check::Counts;
 use list_domains::places::{is_settled, lowest_place};
+use list_tables::shape::TABLES;
+use plan_check::day::Day;
+
+// What tables and counts narrow the domains of a start by: the tables, which choices are free, and what each
+// slot lacks.
+#[derive(Clone, Copy)]
+pub struct Figures<'a> {
+    pub tables: &'a [u16; TABLES],
+    pub free: u64,
+    pub lacks: &'a [usize; 24],
+}
 
 // The choices that have two places or more.
 fn free_choices(choices: usize, domains: &[u64; 64]) -> u64
@@ -51,21 +62,19 @@ fn bring(slots: usize, most: u16, domain: u64, lacks: &mut [usize; 24])
 }
 
 // What each slot lacks: all choosers, less what each settled choice brings to one slot.
-fn each_lack(
-    slots: usize,
-    choices: usize,
-    choosers: usize,
-    maxs: &[u16],
-    domains: &[u64; 64],
-) -> [usize; 24]
-    requires { (slots ≤ 24) × ((choices ≤ 64) × (length maxs.now ≡ choices)) }
-    ensures { let given = domains.now in
-        result ≡ lacks_of slots choices choosers maxs.now (free_of choices given) given }
+fn each_lack(day: &Day, domains: &[u64; 64]) -> [usize; 24]
+    requires { let day = day_lent day.now in
+        (day.counts.slots ≤ 24) × ((day.counts.choices ≤ 64) × (length day.maxs ≡ day.counts.choices)) }
+    ensures { let counts = day.now.counts in
+        let free = free_of counts.choices domains.now in
+        result ≡ lacks_of counts.slots counts.choices counts.choosers day.now.maxs.now free domains.now }
 {
+    let counts = day.counts;
+    let maxs = day.maxs;
     let mut lacks = [0usize; 24];
-    lacks[..slots].fill(choosers);
-    for choice in 0..choices {
-        bring(slots, maxs[choice], domains[choice], &mut lacks);
+    lacks[..counts.slots].fill(counts.choosers);
+    for choice in 0..counts.choices {
+        bring(counts.slots, maxs[choice], domains[choice], &mut lacks);
     }
     lacks
 }
@@ -81,17 +90,19 @@ pub fn free_of(choices: usize, domains: &[u64; 64]) -> u64
 }
 
 // What each slot of a day lacks; of a day that has another shape nothing.
-pub fn lacks_of(counts: Counts, maxs: &[u16], domains: &[u64; 64]) -> [usize; 24]
-    ensures { result ≡ lacks_in counts maxs.now domains.now }
+pub fn lacks_of(day: &Day, domains: &[u64; 64]) -> [usize; 24]
+    ensures { let day = day_lent day.now in
+        result ≡ lacks_in day.counts day.maxs domains.now }
 {
+    let counts = day.counts;
     if 64 < counts.choices {
         return [0usize; 24];
     }
-    if maxs.len() != counts.choices {
+    if day.maxs.len() != counts.choices {
         return [0usize; 24];
     }
     if 24 < counts.slots {
         return [0usize; 24];
     }
-    each_lack(counts.slots, counts.choices, counts.choosers, maxs, domains)
+    each_lack(day, domains)
 }

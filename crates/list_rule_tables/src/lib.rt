@@ -3,3 +3,4 @@
 
 pub mod figures;
 pub mod rule;
+mod weighed;

@@ -1,56 +1,41 @@
 // The rule of one table, and the four tables one after the other.
 ghost use Rattle.std.specs.Prelude.{◌≡◌, cond, ◌+◌, ◌-◌, ◌*◌, ◌≤◌, ◌<◌, max, leb, length, get_or};
 ghost use Rattle.base_choice_sets.specs.Sets.{set_of};
-ghost use Rattle.list_tables.specs.steps.Tables.{entry_at, weight_at};
-ghost use Rattle.list_tables.specs.steps.Lightest.{lightest_at};
+ghost use Rattle.list_tables.specs.steps.Tables.{weight_at};
 ghost use Rattle.list_domains.specs.steps.Domains.{each_below};
+ghost use Rattle.plan_check.specs.Day.{day_lent};
 ghost use Rattle.list_rule_tables.specs.steps.Figures.{first_in};
-ghost use Rattle.list_rule_tables.specs.steps.Rule.{needed, spare_of, slot_stays, weighed_places, table_rule, tables_below, tables_rule};
+ghost use Rattle.list_rule_tables.specs.steps.Rule.{spare_of};
 ghost use Rattle.list_rule_tables.specs.steps.Heaviest.{heaviest_of};
+ghost use Rattle.list_rule_tables.specs.steps.Lent.{weighs, needed_by, stays_by, places_by, rule_by, tables_by, tables_leave};
 
-use super::figures::first_in;
+use super::figures::{Figures, first_in};
+use super::weighed::{OneTable, Weighed};
 use base_choice_sets::set::{member, with_if};
 use day_rows::check::Counts;
 use list_tables::entry::least_at;
 use list_tables::lightest_entry::lightest_at;
 use list_tables::shape::TABLES;
 use list_tables::weight::weight_at;
-
-// What the free choices weigh together, and the heaviest of them.
-#[derive(Clone, Copy)]
-struct Weighed {
-    spare: usize,
-    heaviest: usize,
-}
+use plan_check::day::Day;
 
 // What the free choices that stand in a slot weigh at the least: they fill its
 // lack, and are as many as it wants.
-fn slot_needs(tables: &[u16; TABLES], table: usize, from: usize, lack: usize, want: usize) -> usize
-    ensures { let entry = entry_at tables.now in
-        let light = lightest_at tables.now in
-        (result ≡ max (entry table from lack) (light table from want)) × (result ≤ 65535) }
+fn slot_needs(one: &OneTable, lack: usize, want: usize) -> usize
+    ensures { (result ≡ weighs one.now lack want) × (result ≤ 65535) }
 {
-    least_at(tables, table, from, lack).max(lightest_at(tables, table, from, want))
+    let light = lightest_at(one.tables, one.table, one.from, want);
+    least_at(one.tables, one.table, one.from, lack).max(light)
 }
 
 // What the slots need together.
-fn need_of(
-    slots: usize,
-    table: usize,
-    from: usize,
-    lacks: &[usize; 24],
-    wants: &[usize; 24],
-    tables: &[u16; TABLES],
-) -> usize
+fn need_of(slots: usize, one: &OneTable) -> usize
     requires { slots ≤ 24 }
-    ensures { let entry = entry_at tables.now in
-        let light = lightest_at tables.now in
-        (result ≡ needed entry light slots table from lacks.now wants.now)
-        × (result ≤ 1572840) }
+    ensures { (result ≡ needed_by one.now slots) × (result ≤ 1572840) }
 {
     let mut need = 0;
     for slot in 0..slots {
-        need += slot_needs(tables, table, from, lacks[slot], wants[slot]);
+        need += slot_needs(one, one.lacks[slot], one.wants[slot]);
     }
     need
 }
@@ -65,89 +50,68 @@ fn free_weight(free: bool, tables: &[u16; TABLES], table: usize, choice: usize) 
     weight_at(tables, table, choice)
 }
 
-// What the free choices weigh together and the heaviest of them, from the first of them on.
-fn weigh_free(
-    choices: usize,
-    tables: &[u16; TABLES],
-    table: usize,
-    free: u64,
-    from: usize,
-) -> Weighed
-    requires { (choices ≤ 64) × (from ≡ first_in choices free) }
-    ensures fact { let weight = weight_at tables.now in
-        (result.spare ≡ spare_of choices weight table free) × (result.spare ≤ 4194240) }
-    ensures fact_2 { let weight = weight_at tables.now in
-        (result.heaviest ≡ heaviest_of choices weight table free) × (result.heaviest ≤ 65535) }
+// What the slots need together; what the free choices weigh together and the heaviest of them, from the first
+// of them on.
+fn weigh(counts: Counts, one: &OneTable, free: u64) -> Weighed
+    requires { ((counts.choices ≤ 64) × (counts.slots ≤ 24)) × (one.now.from ≡ first_in counts.choices free) }
+    ensures need_value { result.need ≡ needed_by one.now counts.slots }
+    ensures spare_value { let weight = weight_at one.now.tables.now in
+        result.spare ≡ spare_of counts.choices weight one.now.table free }
+    ensures heaviest_value { let weight = weight_at one.now.tables.now in
+        result.heaviest ≡ heaviest_of counts.choices weight one.now.table free }
 {
+    let need = need_of(counts.slots, one);
     let mut spare = 0;
     let mut heaviest = 0;
-    for choice in from..choices {
-        let weight = free_weight(member(free, choice), tables, table, choice);
+    for choice in one.from..counts.choices {
+        let weight = free_weight(member(free, choice), one.tables, one.table, choice);
         spare += weight;
         heaviest = heaviest.max(weight);
     }
-    Weighed { spare, heaviest }
+    Weighed {
+        need,
+        spare,
+        heaviest,
+    }
 }
 
 // Whether a slot of the domain stays: the choice in it, with what the rest of its lack and of its wanted
 // choices weigh at the least, leaves enough for the other slots.
 fn slot_stays(
-    table: usize,
-    from: usize,
-    lacks: &[usize; 24],
-    wants: &[usize; 24],
-    tables: &[u16; TABLES],
+    one: &OneTable,
+    weighed: &Weighed,
     weight: usize,
     most: usize,
-    need: usize,
-    spare: usize,
     domain: u64,
     slot: usize,
 ) -> bool
-    requires { (slot < 24) × ((weight ≤ 65535) × ((need ≤ 1572840) × (spare ≤ 4194240))) }
-    ensures { let entry = entry_at tables.now in
-        let light = lightest_at tables.now in
-        let lack = lacks.now in
-        let want = wants.now in
-        result ≡ slot_stays entry light table from lack want weight most need spare domain slot }
+    requires { (slot < 24) × (weight ≤ 65535) }
+    ensures { result ≡ stays_by one.now weighed.now weight most domain slot }
 {
     if !member(domain, slot) {
         return false;
     }
-    let lack = lacks[slot];
-    let want = wants[slot];
-    let rest = slot_needs(
-        tables,
-        table,
-        from,
-        lack.saturating_sub(most),
-        want.saturating_sub(1),
-    );
-    let whole = slot_needs(tables, table, from, lack, want);
-    weight + rest + need <= spare + whole
+    let lack = one.lacks[slot];
+    let want = one.wants[slot];
+    let rest = slot_needs(one, lack.saturating_sub(most), want.saturating_sub(1));
+    let whole = slot_needs(one, lack, want);
+    weight + rest + weighed.need <= weighed.spare + whole
 }
 
 // What one table's rule leaves of a free choice's domain: all of it, nothing, or the slots that stay.
 fn left_of(
     slots: usize,
-    table: usize,
-    from: usize,
-    lacks: &[usize; 24],
-    wants: &[usize; 24],
-    tables: &[u16; TABLES],
+    one: &OneTable,
+    weighed: &Weighed,
     weight: usize,
     most: usize,
-    need: usize,
-    spare: usize,
     domain: u64,
 ) -> u64
-    requires { (slots ≤ 24) × ((weight ≤ 65535) × ((need ≤ 1572840) × (spare ≤ 4194240))) }
-    ensures { let entry = entry_at tables.now in
-        let light = lightest_at tables.now in
-        let lack = lacks.now in
-        let want = wants.now in
-        result ≡ weighed_places entry light slots table from lack want weight most need spare domain }
+    requires { (slots ≤ 24) × (weight ≤ 65535) }
+    ensures { result ≡ places_by one.now weighed.now slots weight most domain }
 {
+    let need = weighed.need;
+    let spare = weighed.spare;
     if weight + need <= spare {
         return domain;
     }
@@ -156,9 +120,7 @@ fn left_of(
     }
     let mut kept = 0;
     for slot in 0..slots {
-        let stays = slot_stays(
-            table, from, lacks, wants, tables, weight, most, need, spare, domain, slot,
-        );
+        let stays = slot_stays(one, weighed, weight, most, domain, slot);
         kept = with_if(kept, slot, stays);
     }
     kept
@@ -168,156 +130,92 @@ fn left_of(
 fn next_domain(
     free: bool,
     slots: usize,
-    table: usize,
-    from: usize,
-    lacks: &[usize; 24],
-    wants: &[usize; 24],
-    tables: &[u16; TABLES],
-    need: usize,
-    spare: usize,
+    one: &OneTable,
+    weighed: &Weighed,
     choice: usize,
     most: u16,
     domain: u64,
 ) -> u64
-    requires { (slots ≤ 24) × ((need ≤ 1572840) × (spare ≤ 4194240)) }
-    ensures { let entry = entry_at tables.now in
-        let light = lightest_at tables.now in
-        let weight = weight_at tables.now table choice in
-        let lack = lacks.now in
-        let want = wants.now in
-        let places = weighed_places entry light slots table from lack want weight most need spare domain in
-        result ≡ cond free places domain }
+    requires { slots ≤ 24 }
+    ensures { let weight = weight_at one.now.tables.now one.now.table choice in
+        result ≡ cond free (places_by one.now weighed.now slots weight most domain) domain }
 {
     if !free {
         return domain;
     }
-    let weight = weight_at(tables, table, choice);
-    left_of(
-        slots,
-        table,
-        from,
-        lacks,
-        wants,
-        tables,
-        weight,
-        usize::from(most),
-        need,
-        spare,
-        domain,
-    )
+    let weight = weight_at(one.tables, one.table, choice);
+    left_of(slots, one, weighed, weight, usize::from(most), domain)
 }
 
 // Narrows the domains by one table's rule, from the first free choice on; where the slots can do without any
 // one choice, no domain changes.
-fn narrow_once(
-    counts: Counts,
-    maxs: &[u16],
-    tables: &[u16; TABLES],
-    table: usize,
-    free: u64,
-    from: usize,
-    lacks: &[usize; 24],
-    wants: &[usize; 24],
-    domains: &mut [u64; 64],
-)
-    requires { ((counts.choices ≤ 64) × (counts.slots ≤ 24))
-        × ((length maxs.now ≡ counts.choices) × (from ≡ first_in counts.choices free)) }
-    ensures { let entry = entry_at tables.now in
-        let light = lightest_at tables.now in
-        let weight = weight_at tables.now in
-        let lack = lacks.now in
-        let want = wants.now in
-        let rule = table_rule entry light weight counts maxs.now table free from lack want in
-        domains.new ≡ each_below counts.choices rule domains.old }
+fn narrow_once(day: &Day, one: &OneTable, free: u64, domains: &mut [u64; 64])
+    requires { let day = day_lent day.now in
+        ((day.counts.choices ≤ 64) × (day.counts.slots ≤ 24))
+        × ((length day.maxs ≡ day.counts.choices) × (one.now.from ≡ first_in day.counts.choices free)) }
+    ensures { let day = day_lent day.now in
+        domains.new ≡ each_below day.counts.choices (rule_by one.now day.counts day.maxs free) domains.old }
 {
-    let need = need_of(counts.slots, table, from, lacks, wants, tables);
-    let weighed = weigh_free(counts.choices, tables, table, free, from);
-    let spare = weighed.spare;
-    if need + weighed.heaviest <= spare {
+    let counts = day.counts;
+    let maxs = day.maxs;
+    let weighed = weigh(counts, one, free);
+    if weighed.need + weighed.heaviest <= weighed.spare {
         return;
     }
-    for choice in from..counts.choices {
+    for choice in one.from..counts.choices {
         let inside = member(free, choice);
         let most = maxs[choice];
         let domain = domains[choice];
-        domains[choice] = next_domain(
-            inside,
-            counts.slots,
-            table,
-            from,
-            lacks,
-            wants,
-            tables,
-            need,
-            spare,
-            choice,
-            most,
-            domain,
-        );
+        domains[choice] = next_domain(inside, counts.slots, one, &weighed, choice, most, domain);
     }
 }
 
 // Narrows the domains by the four tables, one after the other.
 fn narrow_each(
-    counts: Counts,
-    maxs: &[u16],
-    tables: &[u16; TABLES],
-    free: u64,
-    from: usize,
-    lacks: &[usize; 24],
+    day: &Day,
+    figures: &Figures,
     wants: &[usize; 24],
+    from: usize,
     domains: &mut [u64; 64],
 )
-    requires { ((counts.choices ≤ 64) × (counts.slots ≤ 24))
-        × ((length maxs.now ≡ counts.choices) × (from ≡ first_in counts.choices free)) }
-    ensures { let entry = entry_at tables.now in
-        let light = lightest_at tables.now in
-        let weight = weight_at tables.now in
-        let lack = lacks.now in
-        let want = wants.now in
-        let most = maxs.now in
-        let given = domains.old in
-        domains.new ≡ tables_below entry light weight counts most free from lack want 4 given }
+    requires { let day = day_lent day.now in
+        ((day.counts.choices ≤ 64) × (day.counts.slots ≤ 24))
+        × ((length day.maxs ≡ day.counts.choices)
+        × (from ≡ first_in day.counts.choices figures.now.free)) }
+    ensures { let day = day_lent day.now in
+        domains.new ≡ tables_by figures.now wants.now day.counts day.maxs from 4 domains.old }
 {
     for table in 0..4 {
-        narrow_once(
-            counts, maxs, tables, table, free, from, lacks, wants, domains,
-        );
+        let one = OneTable {
+            tables: figures.tables,
+            table,
+            from,
+            lacks: figures.lacks,
+            wants,
+        };
+        narrow_once(day, &one, figures.free, domains);
     }
 }
 
-// Narrows the domains by the weight tables, given which choices are free and what each slot lacks and wants;
-// of a day that the tables don't hold they stay as they are.
-pub fn narrow_by_tables(
-    counts: Counts,
-    maxs: &[u16],
-    tables: &[u16; TABLES],
-    free: u64,
-    lacks: &[usize; 24],
-    wants: &[usize; 24],
-    domains: &mut [u64; 64],
-)
-    ensures { let entry = entry_at tables.now in
-        let light = lightest_at tables.now in
-        let weight = weight_at tables.now in
-        let lack = lacks.now in
-        let want = wants.now in
-        let most = maxs.now in
-        let given = domains.old in
-        domains.new ≡ tables_rule entry light weight counts most free lack want given }
+// Narrows the domains by the weight tables, given the figures of a start and how many free choices each slot
+// wants; of a day that the tables don't hold they stay as they are.
+pub fn narrow_by_tables(day: &Day, figures: &Figures, wants: &[usize; 24], domains: &mut [u64; 64])
+    ensures { let day = day_lent day.now in
+        domains.new ≡ tables_leave figures.now wants.now day.counts day.maxs domains.old }
 {
+    let counts = day.counts;
     if 64 < counts.choices {
         return;
     }
     if 200 < counts.choosers {
         return;
     }
-    if maxs.len() != counts.choices {
+    if day.maxs.len() != counts.choices {
         return;
     }
     if 24 < counts.slots {
         return;
     }
-    let from = first_in(counts.choices, free);
-    narrow_each(counts, maxs, tables, free, from, lacks, wants, domains);
+    let from = first_in(counts.choices, figures.free);
+    narrow_each(day, figures, wants, from, domains);
 }

@@ -16,8 +16,8 @@ returns-then-counts-gt24 c =
 
 pub returns-then-counts-row : goal.returns-then-counts-row
 returns-then-counts-row c =
-    limit-past c.args.counts (row_of c.args.number) c.args.domains.now c.if-counts-gt64.false c.if-counts-gt24.false (rw c.of-row.ensures at c.if-counts-row.true)
+    limit-past c.args.counts (row_of c.args.number) c.args.domains.now c.if-counts-gt64.false c.if-counts-gt24.false (rw c.from-row.ensures at c.if-counts-row.true)
 
 pub returns : goal.returns
 returns c =
-    c.narrow_each.ensures ∙ ap (λ (row : Row). limit_rule c.args.counts row c.args.domains.now) c.of-row.ensures
+    c.narrow_each.ensures ∙ ap (λ (row : Row). limit_rule c.args.counts row c.args.domains.now) c.from-row.ensures

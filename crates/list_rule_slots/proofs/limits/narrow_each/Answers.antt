@@ -1,13 +1,7 @@
 use mathlib.Core.Path.{◌≡◌}
-use native.Mathlib.Omega.{arith}
 use borrow.Author.Rules.{rules}
-use Rattle.list_rule_slots.proofs.StepLaws.{must_le, may_le, each_none, each_more, limit-done, limit_spared}
+use Rattle.list_rule_slots.proofs.StepLaws.{each_none, each_more, limit-done, limit_spared}
 use Rattle.list_rule_slots.proofs.limits.narrow_each.Goals as goal
-
-pub is_slack-requires : goal.is_slack-requires
-is_slack-requires c =
-    let e = c.slot_counts-slot_counts.ensures in
-    (omega (arith, e.0, must_le c.args.counts.choices c.args.domains.now c.args.row.left, c.requires.0), omega (arith, e.1, may_le c.args.counts.choices c.args.domains.now c.args.row.left, c.requires.0))
 
 pub returns-then-is_slack : goal.returns-then-is_slack
 returns-then-is_slack c =
@@ -18,11 +12,6 @@ returns-then-is_slack c =
 pub loop-choice-init : goal.loop-choice-init
 loop-choice-init c =
     each_none _ _
-
-pub limit_leaves-requires : goal.limit_leaves-requires
-limit_leaves-requires c =
-    let e = c.slot_counts-slot_counts.ensures in
-    (omega (arith, e.0, must_le c.args.counts.choices c.args.domains.now c.args.row.left, c.requires.0), omega (arith, e.1, may_le c.args.counts.choices c.args.domains.now c.args.row.left, c.requires.0))
 
 pub loop-choice-preserved : goal.loop-choice-preserved
 loop-choice-preserved c =

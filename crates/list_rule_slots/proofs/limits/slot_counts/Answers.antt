@@ -1,5 +1,5 @@
 use mathlib.Core.Path.{◌∙◌, ap}
-use Prim.Native.Nat.{ℕ, ◌<◌}
+use Prim.Native.Nat.{ℕ, ◌≤◌, ◌<◌}
 use native.Mathlib.Omega.{arith}
 use lib.Dec.{eqb}
 use Rattle.std.proofs.lemmas.List.{get_or-take, length-take-le}
@@ -29,3 +29,10 @@ loop-domain-preserved c =
     let e = get_or-take c.args.choices c.args.domains.now c.loop-domain.domain-index 0 h in
     let i = c.loop-domain.invariant in
     (must-more _ _ _ _ _ _ i.0 (c.from-must.ensures ∙ one_from _) (c.is_only.ensures ∙ ap (λ (x : ℕ). eqb x (only_place c.args.slot)) e), may_more _ _ _ _ _ _ i.1 (c.from-may.ensures ∙ one_from _) (c.member.ensures ∙ ap (λ (x : ℕ). has x c.args.slot) e))
+
+pub invariant_of-result : goal.invariant_of-result
+invariant_of-result c =
+    let n = length-take-le c.args.choices c.args.domains.now (omega (arith, c.requires, c.told-domains)) in
+    let e : c.loop-domain.domain-index ≤ 64 = omega (arith, n, c.loop-domain.auto.domain-index-end, c.requires) in
+    let i = c.loop-domain.invariant in
+    record { few = (omega (arith, e, i.0, must_le c.loop-domain.domain-index c.args.domains.now c.args.slot), omega (arith, e, i.1, may_le c.loop-domain.domain-index c.args.domains.now c.args.slot)) }

@@ -6,7 +6,7 @@ use Rattle.list_rule_slots.proofs.slot_sums.add_choice.Goals as goal
 pub add_settled-requires : goal.add_settled-requires
 add_settled-requires c =
     let p = c.requires in
-    (p.0, sym c.is_settled.ensures ∙ c.if-is_settled.true, p.1, p.2, p.3, p.4)
+    (p.0, sym c.is_settled.ensures ∙ c.if-is_settled.true, p.1, p.2, p.3)
 
 pub returns : goal.returns
 returns c =

@@ -13,7 +13,7 @@ pub add_choice-requires : goal.add_choice-requires
 add_choice-requires c =
     let p = c.requires in
     let s = sums-small _ _ _ _ p.1 _ _ _ (omega (arith, p.0, c.loop-choice-test.true)) c.loop-choice.invariant in
-    (p.1, omega (arith, c.from.ensures, c.type_inv.mins c.loop-choice.choice), omega (arith, c.from-in-loop-choice.ensures, c.type_inv.maxs c.loop-choice.choice), s.0, s.1)
+    (p.1, omega (arith, c.from.ensures, c.type_inv.mins c.loop-choice.choice), omega (arith, c.from-in-loop-choice.ensures, c.type_inv.maxs c.loop-choice.choice), s)
 
 pub loop-choice-preserved : goal.loop-choice-preserved
 loop-choice-preserved c =
@@ -22,5 +22,5 @@ loop-choice-preserved c =
 
 pub returns : goal.returns
 returns c =
-    let e : c.loop-choice.choice ≡ c.args.counts.choices = search rules in
+    let e : c.loop-choice.choice ≡ c.args.day.now.counts.choices = search rules in
     rw e at c.loop-choice.invariant

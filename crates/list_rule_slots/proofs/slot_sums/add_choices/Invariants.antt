@@ -4,4 +4,4 @@ use Rattle.list_rule_slots.proofs.slot_sums.add_choices.Given as goal
 
 abbrev pub invariant-loop-choice : goal.invariant-loop-choice
 invariant-loop-choice l =
-    SumsOf l.counts.slots l.choice l.mins l.maxs l.domains l.musts l.mays
+    SumsOf l.counts.slots l.choice l.mins l.maxs l.domains l.sums.musts l.sums.mays

@@ -9,15 +9,15 @@ returns-then-slots-slot c =
     let p = c.requires in
     settled-past _ _ _ p.0 (search rules) p.1 c.lowest_place-slot.ensures _ _ _ _ c.if-slots-slot.true
 
-pub overflow_add-musts : goal.overflow_add-musts
-overflow_add-musts c =
+pub overflow_add-sums : goal.overflow_add-sums
+overflow_add-sums c =
     let p = c.requires in
-    omega (arith, p.2, small_at _ _ _ p.4 c.if-slots-slot.false)
+    omega (arith, p.2, small_at _ _ _ p.4.0 c.if-slots-slot.false)
 
-pub overflow_add-mays : goal.overflow_add-mays
-overflow_add-mays c =
+pub overflow_add-sums-2 : goal.overflow_add-sums-2
+overflow_add-sums-2 c =
     let p = c.requires in
-    omega (arith, p.3, small_at _ _ _ p.5 c.if-slots-slot.false)
+    omega (arith, p.3, small_at _ _ _ p.4.1 c.if-slots-slot.false)
 
 pub returns : goal.returns
 returns c =

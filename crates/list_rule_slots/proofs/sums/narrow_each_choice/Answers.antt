@@ -18,10 +18,10 @@ sums_leave-requires c =
 
 pub loop-choice-preserved : goal.loop-choice-preserved
 loop-choice-preserved c =
-    let a = c.args in
-    left-more _ _ _ a.mins.now a.maxs.now a.domains.now _ _ _ _ _ c.loop-choice.invariant c.from.ensures c.from-in-loop-choice.ensures c.sums_leave.ensures
+    let a = c.args.day.now in
+    left-more _ _ _ a.mins.now a.maxs.now c.args.domains.now _ _ _ _ _ c.loop-choice.invariant c.from.ensures c.from-in-loop-choice.ensures c.sums_leave.ensures
 
 pub returns : goal.returns
 returns c =
-    let e : c.loop-choice.choice ≡ c.args.counts.choices = search rules in
+    let e : c.loop-choice.choice ≡ c.args.day.now.counts.choices = search rules in
     left-done _ _ _ _ _ _ _ _ e c.loop-choice.invariant

@@ -9,8 +9,8 @@ use Rattle.list_rule_tables.proofs.figures.each_lack.Goals as goal
 
 pub loop-choice-init : goal.loop-choice-init
 loop-choice-init c =
-    let f : c.fill.new.self ≡ replicate c.args.slots c.args.choosers = search rules in
-    lacks-start _ _ _ _ _ c.requires.0 _ _ refl (ap (λ (l : List ℕ). l ++ drop c.args.slots (replicate 24 0)) f ∙ lacks-filled c.args.choosers c.args.slots (replicate 24 0) (omega (arith, c.requires.0)))
+    let f : c.fill.new.self ≡ replicate c.args.day.now.counts.slots c.args.day.now.counts.choosers = search rules in
+    lacks-start _ _ _ _ _ c.requires.0 _ _ refl (ap (λ (l : List ℕ). l ++ drop c.args.day.now.counts.slots (replicate 24 0)) f ∙ lacks-filled c.args.day.now.counts.choosers c.args.day.now.counts.slots (replicate 24 0) (omega (arith, c.requires.0)))
 
 pub loop-choice-preserved : goal.loop-choice-preserved
 loop-choice-preserved c =

@@ -7,4 +7,4 @@ use Rattle.list_rule_tables.proofs.figures.each_lack.Given as goal
 
 abbrev pub invariant-loop-choice : goal.invariant-loop-choice
 invariant-loop-choice l =
-    l.lacks ≡ written l.slots 0 (lack_of l.choice l.choosers l.maxs (free_of l.choices l.domains) l.domains) (replicate 24 0)
+    l.lacks ≡ written l.counts.slots 0 (lack_of l.choice l.counts.choosers l.maxs (free_of l.counts.choices l.domains) l.domains) (replicate 24 0)

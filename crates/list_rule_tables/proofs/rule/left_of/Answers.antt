@@ -17,10 +17,6 @@ pub loop-slot-init : goal.loop-slot-init
 loop-slot-init c =
     set-start _
 
-pub slot_stays-stays-requires : goal.slot_stays-stays-requires
-slot_stays-stays-requires c =
-    (omega (arith, c.loop-slot-test.true, c.requires.0), c.requires.1)
-
 pub loop-slot-preserved : goal.loop-slot-preserved
 loop-slot-preserved c =
     set-step _ _ _ _ _ (omega (arith, c.loop-slot-test.true, c.requires.0)) c.loop-slot.invariant c.slot_stays-stays.ensures c.with_if-kept.ensures

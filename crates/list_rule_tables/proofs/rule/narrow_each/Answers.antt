@@ -9,10 +9,6 @@ unfolding tables_below
 loop-table-init c =
     refl
 
-pub narrow_once-requires : goal.narrow_once-requires
-narrow_once-requires c =
-    c.requires
-
 pub loop-table-preserved : goal.loop-table-preserved
 loop-table-preserved c =
     each_step _ _ _ _ _ _ _ _ _ _ _ _ _ c.loop-table.invariant c.narrow_once.ensures

@@ -1,17 +1,12 @@
 -- Free or not.
-use Rattle.list_tables.specs.steps.Tables.{entry_at, weight_at}
-use Rattle.list_tables.specs.steps.Lightest.{lightest_at}
-use Rattle.list_rule_tables.specs.steps.Rule.{weighed_places}
+use Rattle.list_tables.specs.steps.Tables.{weight_at}
+use Rattle.list_rule_tables.specs.steps.Lent.{places_by}
 use Rattle.list_rule_tables.proofs.RuleLaws.{next-same, next-left}
 use Rattle.list_rule_tables.proofs.rule.next_domain.Goals as goal
 
 pub returns-then-not-free : goal.returns-then-not-free
 returns-then-not-free c =
-    let a = c.args in next-same a.free (weighed_places (entry_at a.tables.now) (lightest_at a.tables.now) a.slots a.table a.from a.lacks.now a.wants.now (weight_at a.tables.now a.table a.choice) a.most a.need a.spare a.domain) a.domain (c.if-not-free.true)
-
-pub left_of-requires : goal.left_of-requires
-left_of-requires c =
-    (c.requires.0, (c.weight_at-weight.ensures.1, c.requires.1))
+    let a = c.args in next-same a.free (places_by a.one.now a.weighed.now a.slots (weight_at a.one.now.tables.now a.one.now.table a.choice) a.most a.domain) a.domain (c.if-not-free.true)
 
 pub returns : goal.returns
 returns c =
