@@ -32,18 +32,7 @@ pub(crate) fn start(known: usize, many: &[u16; 64], program: &mut [f64; 4416]) {
     }
 }
 
-// A weight no less than 0 and no more than 1: rounding may take it past either.
-fn within_one(weight: f64) -> f64 {
-    if weight < 0.0 {
-        return 0.0;
-    }
-    if weight > 1.0 {
-        return 1.0;
-    }
-    weight
-}
-
-// What a kind weighs by the sets that are packed.
+// What a kind weighs by the sets that are packed, from 0 to 1: rounding may take it past either.
 fn kind_weight(kind: usize, known: usize, program: &[f64; 4416]) -> f64
     requires { (kind < 64) × (known ≤ 64) }
 {
@@ -51,7 +40,7 @@ fn kind_weight(kind: usize, known: usize, program: &[f64; 4416]) -> f64
     for row in 0..known {
         weight += program[COSTS + row] * program[row * 64 + kind];
     }
-    within_one(weight)
+    weight.clamp(0.0, 1.0)
 }
 
 // Writes the weights of all kinds by the sets that are packed.
