@@ -8,6 +8,7 @@ use super::weight::{set_ones, weight_at};
 use day_rows::check::Counts;
 
 // Room for the tables and their weights, all 0.
+// A function and no array at the call: docs/PROMISES.md names it with what it promises.
 pub fn no_tables() -> [u16; TABLES]
     ensures { result ≡ replicate tables_size 0 }
 {

@@ -10,6 +10,7 @@ use super::shape::{LIGHTEST_START, TABLES};
 use super::weight::weight_at;
 
 // Fills the least weights of one table by the weights that stand there, from the last row to the first.
+// Beside fill's and not one with it: that one's promise speaks of the day's maximums, this one's of counts alone.
 fn fill_table(choices: usize, table: usize, tables: &mut [u16; TABLES])
     requires { ((choices ≤ 64) × (table < 4)) × (length tables.old ≡ tables_size) }
     ensures { Filling choices tables.old table 0 tables.new }
