@@ -9,7 +9,6 @@ ghost use Rattle.list_all.specs.Outcome.{listed_tells, listed_of, list_of};
 ghost use Rattle.list_nodes.specs.steps.Runs.{Judged};
 
 use super::plans::list_choice;
-use base_pools::zeros::{bytes, figures};
 use day_rows::check::{Checked, Counts};
 use day_rows::refusal::Refusal;
 use list_nodes::judge::judge;
@@ -49,9 +48,9 @@ fn list_all(
 {
     let asked = numbers_asked(counts, first, room);
     let choices = counts.choices;
-    let mut plan = bytes();
+    let mut plan = [0u8; 64];
     let mut places = &mut plan[..choices];
-    let mut slot_min = figures();
+    let mut slot_min = [0usize; 24];
     let mut total = 0;
     list_choice(
         &asked,

@@ -4,7 +4,6 @@ ghost use Rattle.std.specs.Prelude.{◌≡◌, ◌+◌, ◌-◌, ◌≤◌, ◌<
 ghost use Rattle.list_nodes.specs.steps.Walk.{first_of, room_of, day_asked, place_of, sums_with, sums_without, plans_from, plans_left};
 ghost use Rattle.list_nodes.specs.steps.Runs.{Stands, Lists, Listing, Open};
 
-use base_pools::number::wide_word;
 use list_starts::full::{CHOOSERS, SLOTS, list_plan};
 use list_starts::places::{next_open, place_at};
 use plan_check::plan::OMITTED;
@@ -29,7 +28,7 @@ fn take_place(
         plan[choice] = OMITTED;
         return;
     }
-    slot_min[place] += wide_word(mins[choice]);
+    slot_min[place] += usize::from(mins[choice]);
     plan[choice] = place as u8;
 }
 
@@ -43,7 +42,7 @@ fn leave_place(slots: usize, mins: &&[u16], choice: usize, place: usize, slot_mi
     if place == slots {
         return;
     }
-    slot_min[place] -= wide_word(mins[choice]);
+    slot_min[place] -= usize::from(mins[choice]);
 }
 
 // 'one function per choice' of the listing: fills in the choice, from the first place on that it may take.

@@ -15,18 +15,5 @@ to_choice t size choice left e h some = omega arith
 pub to_next : (t size choice left next : ℕ) → (size - choice) * 32 + left ≡ t → next < left → (size - choice) * 32 + next < t
 to_next t size choice left next e h = omega arith
 
--- the number of places fits in 64 bits
-pub all-places : (slots : ℕ) → slots ≤ 24 → slots + 1 < 2 ^ 64
-all-places slots few = omega arith
-
 pub next-choice : (choice size : ℕ) → choice + 1 ≤ size → size ≤ 64 → choice + 1 < 2 ^ 64
 next-choice choice size h few = omega arith
-
-pub before-next : (choice size : ℕ) → choice + 1 ≤ size → choice < size
-before-next choice size h = omega arith
-
-pub last-place : (slots left : ℕ) {at : ℕ} → at ≡ slots - (left - 1) → at ≤ slots
-last-place slots left e = omega arith
-
-pub low_sum : {sum choosers : ℕ} → sum ≤ choosers → choosers ≤ 200 → sum ≤ 200
-low_sum h few = omega arith

@@ -3,7 +3,7 @@ use mathlib.Core.Path.{◌≡◌, refl, sym, ap, ◌∙◌}
 use mathlib.Core.Bool.{Bool, true, false}
 use mathlib.Core.List.{List, [], ◌∷◌, ◌++◌, flatten}
 use Prim.Native.Nat.{ℕ, zero, suc, ◌+◌, ◌-◌, ◌*◌, ◌≤◌, ◌<◌, ◌^◌, min}
-use native.Mathlib.Nat.{mul-le-mul_right, suc-mul, zero-mul, add-zero}
+use native.Mathlib.Nat.{suc-mul, zero-mul, add-zero}
 use native.Mathlib.Numerals.{add-one}
 use native.Mathlib.Omega.{arith}
 use borrow.Author.Tests.{lt-ltb, le-ltb, le-leb, lt-leb, ltb-true, ltb-false, eq-eqb}
@@ -33,12 +33,6 @@ module _ (first room : ℕ) (buffer : List ℕ) (number : ℕ) (plan : List ℕ)
   pub put-here : first ≤ number → number - first < room → sets buffer ((number - first) * length plan) plan ≡ put_plan first room buffer number plan
   unfolding put_plan
   put-here h o = rw (le-leb _ _ h, lt-ltb _ _ o)
-
--- a place of the page lies within the buffer
-pub place-fits : (place room size : ℕ) → place < room → place * size + size ≤ room * size
-place-fits place room size h =
-    let e : suc place * size ≡ place * size + size = suc-mul place size in
-    omega (arith, e, mul-le-mul_right size h)
 
 -- ---- plans one after another
 

@@ -6,8 +6,6 @@ ghost use Rattle.list_nodes.specs.steps.Runs.{Walks, Counted};
 ghost use Rattle.plan_check.specs.Day.{day_of};
 ghost use Rattle.list_nodes.specs.steps.Nodes.{countable, nodes_within};
 
-use base_pools::number::{less_u64, wide_word};
-use base_pools::zeros::figures;
 use day_rows::check::{Counts, Takes, counts_in_range};
 
 // How many nodes a day has, if they are within the budget.
@@ -71,7 +69,7 @@ fn count_place(
         return count_choice(slots, choosers, mins, optional, choice + 1, slot_min, left);
     }
     let before = slot_min[slot];
-    let after = before + wide_word(mins[choice]);
+    let after = before + usize::from(mins[choice]);
     if choosers < after {
         return count_place(
             slots,
@@ -119,7 +117,7 @@ fn count_all(counts: Counts, mins: &[u16], optional: &[u8], budget: u64) -> Coun
     requires { countable (day_of counts mins.now [] optional.now []) ≡ true }
     ensures { result ≡ nodes_within (day_of counts mins.now [] optional.now []) budget }
 {
-    let mut slot_min = figures();
+    let mut slot_min = [0usize; 24];
     let mut left = budget;
     let slots = counts.slots;
     let choosers = counts.choosers;
@@ -134,7 +132,7 @@ fn count_all(counts: Counts, mins: &[u16], optional: &[u8], budget: u64) -> Coun
     ) {
         return Counting::Over;
     }
-    Counting::Within(less_u64(budget, left))
+    Counting::Within(budget.saturating_sub(left))
 }
 
 // How many nodes a day has, if they are within the budget; a day past the limits is over any budget.

@@ -22,10 +22,7 @@ use list_weights::fit::fit_weights;
 fn first_rows(rows: &[u64], count: usize) -> &[u64]
     ensures { result.now ≡ take count rows.now }
 {
-    if rows.len() < count {
-        return rows;
-    }
-    &rows[..count]
+    &rows[..count.min(rows.len())]
 }
 
 // The page of a day that is not refused: its tables by weights that are fitted to it, its choices' first

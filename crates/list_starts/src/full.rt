@@ -101,12 +101,10 @@ fn slots_filled(slots: usize, choosers: usize, slot_max: &[usize; 24]) -> bool
     if 24 < slots {
         return false;
     }
-    let mut slot = 0;
-    while slot < slots {
+    for slot in 0..slots {
         if slot_max[slot] < choosers {
             return false;
         }
-        slot += 1;
     }
     true
 }

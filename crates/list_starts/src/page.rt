@@ -10,11 +10,7 @@ fn copy_at(plan: &[u8], buffer: &mut [u8], at: usize)
     requires { at + length plan.now ≤ length buffer.old }
     ensures { buffer.new ≡ sets buffer.old at plan.now }
 {
-    let mut i = 0;
-    while i < plan.len() {
-        buffer[at + i] = plan[i];
-        i += 1;
-    }
+    buffer[at..at + plan.len()].copy_from_slice(plan);
 }
 
 // Puts a plan of the page at its place, and one of another page nowhere; in a buffer that isn't as long as
@@ -39,11 +35,5 @@ pub(crate) fn put_plan(first: u64, room: u64, number: u64, plan: &[u8], buffer: 
 pub fn written_of(first: u64, room: u64, total: u64) -> u64
     ensures { result ≡ min room (total - first) }
 {
-    if total <= first {
-        return 0;
-    }
-    if total - first < room {
-        return total - first;
-    }
-    room
+    room.min(total.saturating_sub(first))
 }

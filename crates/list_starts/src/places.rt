@@ -3,20 +3,13 @@ ghost use Rattle.std.specs.Prelude.{◌≡◌, [], ◌∷◌, ◌-◌, ◌≤◌
 ghost use Rattle.list_nodes.specs.steps.Walk.{place_of, place_fits, next_open};
 ghost use Rattle.list_starts.specs.steps.Starts.{open_within};
 
-use base_pools::number::{flag_of, wide_word};
+use base_pools::number::flag_of;
 
 // The place with so many places left, itself among them: the slots by their numbers, then omission.
 pub fn place_at(slots: usize, left: usize) -> usize
     ensures { result ≡ slots - (left - 1) }
 {
-    if left == 0 {
-        return slots;
-    }
-    let after = left - 1;
-    if slots < after {
-        return 0;
-    }
-    slots - after
+    slots.saturating_sub(left.saturating_sub(1))
 }
 
 // A choice's minimum or maximum, 0 of one past the list.
@@ -26,7 +19,7 @@ pub fn amount_of(amounts: &[u16], choice: usize) -> usize
     if amounts.len() <= choice {
         return 0;
     }
-    wide_word(amounts[choice])
+    usize::from(amounts[choice])
 }
 
 // Whether a choice with this minimum may take a place: a slot whose sum of minimums stays within the

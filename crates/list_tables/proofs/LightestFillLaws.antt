@@ -5,13 +5,12 @@ use mathlib.Core.List.{List}
 use Prim.Native.Nat.{ℕ, suc, ◌+◌, ◌-◌, ◌*◌, ◌≤◌, ◌<◌, min}
 use native.Mathlib.Decide.{ℕ_discrete}
 use native.Mathlib.Numerals.{add-one}
-use native.Mathlib.Nat.{not-suc-le-zero}
 use native.Mathlib.Omega.{arith}
 use lib.ListN.{length, get_or}
 use Rattle.list_tables.specs.steps.Weights.{last_entry, least}
 use Rattle.list_tables.specs.steps.Tables.{weight_at, written, next_entry}
 use Rattle.list_tables.proofs.TableLaws.{written-length, written_in, written_out, weight_same}
-use Rattle.list_tables.specs.steps.Lightest.{lightest_of, FillsLightest}
+use Rattle.list_tables.specs.steps.Lightest.{lightest_of}
 use Rattle.list_tables.specs.steps.Filling.{Filling, FirstFilled}
 use Rattle.list_tables.proofs.LightestLaws.{lightest-by}
 
@@ -138,15 +137,6 @@ filled_row choices before table past from tables after weight c t p i w k e =
 
 -- the tables one after the other
 module _ (choices : ℕ) where
-  -- no table is filled yet
-  pub first-none : (before : List ℕ) → length before ≡ 69416 → FirstFilled choices before 0 before
-  first-none before s =
-      record {
-        size = s;
-        outside = λ place o. refl;
-        entries = λ table row count o. absurd (not-suc-le-zero o);
-      }
-
   -- while the tables are filled the weights are as before
   pub first-weights : (before tables : List ℕ) (filled : ℕ) → FirstFilled choices before filled tables → (other choice : ℕ)
       → weight_at tables other choice ≡ weight_at before other choice
@@ -174,23 +164,3 @@ module _ (choices : ℕ) where
       go table row count u r s (no q) =
           g.outside (52516 + (table * 65 + row) * 65 + count) (λ other entry a b z. omega (arith, q))
           ∙ k.entries table row count (omega (arith, q)) r s
-
-  -- the call: of too many choices the array is left, of others all four tables are filled
-  pub fills-many : (before : List ℕ) → 64 < choices → FillsLightest choices before before
-  fills-many before h =
-      record {
-        size = refl;
-        entries = λ c. absurd (omega arith);
-        others = λ place o. refl;
-        untouched = λ z. refl;
-      }
-
-  pub fills-all : (before after : List ℕ) → choices ≤ 64 → length before ≡ 69416 → FirstFilled choices before 4 after
-      → FillsLightest choices before after
-  fills-all before after c s k =
-      record {
-        size = k.size ∙ sym s;
-        entries = λ z table from count t f g. k.entries table from count t f g;
-        others = λ place o. k.outside place o;
-        untouched = λ z. absurd (omega arith);
-      }

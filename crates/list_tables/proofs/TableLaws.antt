@@ -136,11 +136,6 @@ weight_same tables before table choice h = go (ltb table 4 && ltb choice 64) ref
     go true t = h (ltb-true _ _ (and_left (ltb table 4) (ltb choice 64) t)) (ltb-true _ _ (and_right (ltb table 4) (ltb choice 64) t))
     go false t = refl
 
--- ones for table 0: the array is as long as it was
-pub ones-length : (before tables : List ℕ) → length before ≡ 69416 → tables ≡ with_ones before → length tables ≡ 69416
-unfolding with_ones
-ones-length before tables s e = ap (λ (x : List ℕ). length x) e ∙ written-length 52260 (λ x. 1) before 64 ∙ s
-
 -- the other tables' weights are as they were
 pub ones-out : (tables : List ℕ) (table choice : ℕ) → 1 ≤ table → weight_at (with_ones tables) table choice ≡ weight_at tables table choice
 unfolding with_ones
@@ -294,15 +289,6 @@ filled_row counts maxs before table past from tables after weight most c h t p i
 
 -- the tables one after the other
 module _ (counts : Counts) (maxs : List ℕ) where
-  -- no table is filled yet
-  pub first-none : (before : List ℕ) → length before ≡ 69416 → FirstFilled counts maxs before 0 before
-  first-none before s =
-      record {
-        size = s;
-        entries = λ table from lack o. absurd (not-suc-le-zero o);
-        weights = λ table choice. refl;
-      }
-
   -- one table more is filled
   pub first_more : (before tables after : List ℕ) (count : ℕ) → counts.choices ≤ 64 → counts.choosers ≤ 200 → count < 4
       → FirstFilled counts maxs before count tables → Filling counts maxs tables count 0 after → FirstFilled counts maxs before (count + 1) after
@@ -319,10 +305,6 @@ module _ (counts : Counts) (maxs : List ℕ) where
           rw e (g.rows_after from lack (omega arith) f l ∙ least_by (weight_at tables) (weight_at before) counts maxs count from lack (λ choice. k.weights count choice))
       go table from lack o f l (no q) =
           g.outside ((table * 65 + from) * 201 + lack) (λ a b. omega (arith, q)) ∙ k.entries table from lack (omega (arith, q)) f l
-
-  pub first_done : (before first tables : List ℕ) (count : ℕ) → count ≡ 4 → first ≡ with_ones before → FirstFilled counts maxs first count tables
-      → FirstFilled counts maxs (with_ones before) 4 tables
-  first_done before first tables count e o k = rw e at (rw o at k)
 
   -- all four tables are filled by weights that are at most 1 in table 0
   pub first-all : (before tables : List ℕ) → ((choice : ℕ) → weight_at before 0 choice ≤ 1) → FirstFilled counts maxs before 4 tables → TablesFilled counts maxs tables

@@ -3,7 +3,6 @@ ghost use Rattle.std.specs.Prelude.{◌≡◌, ◌-◌, ◌≤◌};
 ghost use Rattle.list_tables.specs.steps.Tables.{entry_at};
 
 use super::shape::TABLES;
-use base_pools::number::wide_word;
 
 // The entry of a table for a first choice and a lack: 0 past the tables' shape.
 pub fn least_at(tables: &[u16; TABLES], table: usize, from: usize, lack: usize) -> usize
@@ -18,5 +17,5 @@ pub fn least_at(tables: &[u16; TABLES], table: usize, from: usize, lack: usize) 
     if 201 <= lack {
         return 0;
     }
-    wide_word(tables[(table * 65 + from) * 201 + lack])
+    usize::from(tables[(table * 65 + from) * 201 + lack])
 }

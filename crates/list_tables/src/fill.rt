@@ -5,10 +5,10 @@ ghost use Rattle.list_tables.specs.steps.Tables.{tables_size, Fills, Filling, Fi
 use super::rows::{fill_last, fill_row, length_known};
 use super::shape::TABLES;
 use super::weight::{set_ones, weight_at};
-use base_pools::number::wide_word;
 use day_rows::check::Counts;
 
 // Room for the tables and their weights, all 0.
+// A function and no array at the call: docs/PROMISES.md names it with what it promises.
 pub fn no_tables() -> [u16; TABLES]
     ensures { result ≡ replicate tables_size 0 }
 {
@@ -24,13 +24,11 @@ fn fill_table(counts: Counts, table: usize, maxs: &[u16], tables: &mut [u16; TAB
         let after = tables.new in
         Filling counts maxs.now before table 0 after }
 {
-    let mut from = counts.choices;
-    fill_last((table * 65 + from) * 201, counts.choosers + 1, tables);
-    while 0 < from {
-        from -= 1;
-        let most = wide_word(maxs[from]);
+    let entries = counts.choosers + 1;
+    fill_last((table * 65 + counts.choices) * 201, entries, tables);
+    for from in (0..counts.choices).rev() {
+        let most = usize::from(maxs[from]);
         let weight = weight_at(tables, table, from);
-        let entries = counts.choosers + 1;
         fill_row(
             (table * 65 + from) * 201,
             201,
@@ -51,10 +49,8 @@ fn fill_each(counts: Counts, maxs: &[u16], tables: &mut [u16; TABLES])
         FirstFilled counts maxs.now before 4 after }
 {
     set_ones(tables);
-    let mut table = 0;
-    while table < 4 {
+    for table in 0..4 {
         fill_table(counts, table, maxs, tables);
-        table += 1;
     }
 }
 

@@ -3,7 +3,6 @@ ghost use Rattle.std.specs.Prelude.{◌≡◌, ◌≤◌};
 ghost use Rattle.list_tables.specs.steps.Lightest.{lightest_at};
 
 use super::shape::{LIGHTEST_START, TABLES};
-use base_pools::number::wide_word;
 
 // The least weight of so many of the choices from a first one on, in a table: 0 of none, and past the shape.
 pub fn lightest_at(tables: &[u16; TABLES], table: usize, from: usize, count: usize) -> usize
@@ -21,5 +20,5 @@ pub fn lightest_at(tables: &[u16; TABLES], table: usize, from: usize, count: usi
     if 65 <= count {
         return 0;
     }
-    wide_word(tables[LIGHTEST_START + (table * 65 + from) * 65 + count])
+    usize::from(tables[LIGHTEST_START + (table * 65 + from) * 65 + count])
 }

@@ -10,18 +10,17 @@ use super::shape::{LIGHTEST_START, TABLES};
 use super::weight::weight_at;
 
 // Fills the least weights of one table by the weights that stand there, from the last row to the first.
+// Beside fill's and not one with it: that one's promise speaks of the day's maximums, this one's of counts alone.
 fn fill_table(choices: usize, table: usize, tables: &mut [u16; TABLES])
     requires { ((choices ≤ 64) × (table < 4)) × (length tables.old ≡ tables_size) }
     ensures { Filling choices tables.old table 0 tables.new }
 {
-    let mut from = choices;
     fill_last(
-        LIGHTEST_START + (table * 65 + from) * 65,
+        LIGHTEST_START + (table * 65 + choices) * 65,
         choices + 1,
         tables,
     );
-    while 0 < from {
-        from -= 1;
+    for from in (0..choices).rev() {
         let most = 1;
         let weight = weight_at(tables, table, from);
         fill_row(
@@ -40,10 +39,8 @@ fn fill_each(choices: usize, tables: &mut [u16; TABLES])
     requires { (choices ≤ 64) × (length tables.old ≡ tables_size) }
     ensures { FirstFilled choices tables.old 4 tables.new }
 {
-    let mut table = 0;
-    while table < 4 {
+    for table in 0..4 {
         fill_table(choices, table, tables);
-        table += 1;
     }
 }
 

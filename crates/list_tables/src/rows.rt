@@ -4,7 +4,6 @@ ghost use Rattle.list_tables.specs.steps.Weights.{last_entry};
 ghost use Rattle.list_tables.specs.steps.Tables.{tables_size, written, next_entry};
 
 use super::shape::TABLES;
-use base_pools::number::{less, wide_word};
 
 // The entry that stands for a lack that no set reaches.
 pub const UNREACHED: u16 = 30000;
@@ -23,10 +22,7 @@ fn last_entry(lack: usize) -> u16
 pub fn smaller_entry(entry: u16, weight: usize) -> u16
     ensures { result ≡ min entry weight }
 {
-    if wide_word(entry) <= weight {
-        return entry;
-    }
-    weight as u16
+    usize::from(entry).min(weight) as u16
 }
 
 // Writes the row after the last choice.
@@ -34,10 +30,8 @@ pub(crate) fn fill_last(at: usize, entries: usize, tables: &mut [u16; TABLES])
     requires { (at + entries ≤ tables_size) × (length tables.old ≡ tables_size) }
     ensures { tables.new ≡ written entries at last_entry tables.old }
 {
-    let mut lack = 0;
-    while lack < entries {
+    for lack in 0..entries {
         tables[at + lack] = last_entry(lack);
-        lack += 1;
     }
 }
 
@@ -56,12 +50,10 @@ pub(crate) fn fill_row(
     ensures { let before = tables.old in
         tables.new ≡ written entries at (next_entry width before at weight most) before }
 {
-    let mut lack = 0;
-    while lack < entries {
+    for lack in 0..entries {
         let without = tables[at + width + lack];
-        let with = weight + wide_word(tables[at + width + less(lack, most)]);
+        let with = weight + usize::from(tables[at + width + lack.saturating_sub(most)]);
         tables[at + lack] = smaller_entry(without, with);
-        lack += 1;
     }
 }
 

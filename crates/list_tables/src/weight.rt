@@ -3,7 +3,6 @@ ghost use Rattle.std.specs.Prelude.{◌≡◌, ◌≤◌, length};
 ghost use Rattle.list_tables.specs.steps.Tables.{tables_size, weight_at, with_ones};
 
 use super::shape::{TABLES, WEIGHTS_START};
-use base_pools::number::wide_word;
 
 // A choice's weight in a table: 0 past the tables' shape.
 pub fn weight_at(tables: &[u16; TABLES], table: usize, choice: usize) -> usize
@@ -15,7 +14,7 @@ pub fn weight_at(tables: &[u16; TABLES], table: usize, choice: usize) -> usize
     if 64 <= choice {
         return 0;
     }
-    wide_word(tables[WEIGHTS_START + table * 64 + choice])
+    usize::from(tables[WEIGHTS_START + table * 64 + choice])
 }
 
 // Gives each choice the weight 1 in table 0.
@@ -23,9 +22,7 @@ pub(crate) fn set_ones(tables: &mut [u16; TABLES])
     requires { length tables.old ≡ tables_size }
     ensures { tables.new ≡ with_ones tables.old }
 {
-    let mut choice = 0;
-    while choice < 64 {
+    for choice in 0..64 {
         tables[WEIGHTS_START + choice] = 1;
-        choice += 1;
     }
 }

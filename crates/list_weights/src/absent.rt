@@ -1,12 +1,19 @@
 // Weights of the kinds that the day's end has none of: the linear program says nothing of them.
-ghost use Rattle.std.specs.Prelude.{◌<◌, ◌≤◌};
+ghost use Rattle.std.specs.Prelude.{◌<◌, ◌≤◌, IfSome};
 
 use super::simplex::{WEIGHTS, weight_of};
 
 // The kind, where the day's end has choices of it and it is smaller than the size and larger than the best
 // kind so far; else the best kind so far.
-fn nearer(best: usize, kind: usize, size: usize, sizes: &[usize; 64], many: &[u16; 64]) -> usize
-    requires { kind < 64 }
+fn nearer(
+    best: Option<usize>,
+    kind: usize,
+    size: usize,
+    sizes: &[usize; 64],
+    many: &[u16; 64],
+) -> Option<usize>
+    requires { (kind < 64) × IfSome best (λ b. b < 64) }
+    ensures { IfSome result (λ r. r < 64) }
 {
     if many[kind] == 0 {
         return best;
@@ -14,24 +21,22 @@ fn nearer(best: usize, kind: usize, size: usize, sizes: &[usize; 64], many: &[u1
     if size <= sizes[kind] {
         return best;
     }
-    if 64 <= best {
-        return kind;
-    }
-    if sizes[kind] <= sizes[best] {
+    let Some(nearest) = best else {
+        return Some(kind);
+    };
+    if sizes[kind] <= sizes[nearest] {
         return best;
     }
-    kind
+    Some(kind)
 }
 
-// The largest kind that is smaller than a size and that the day's end has choices of, 64 if there is none.
-fn next_smaller(size: usize, known: usize, sizes: &[usize; 64], many: &[u16; 64]) -> usize
+// The largest kind that is smaller than a size and that the day's end has choices of, if there is one.
+fn next_smaller(size: usize, known: usize, sizes: &[usize; 64], many: &[u16; 64]) -> Option<usize>
     requires { known ≤ 64 }
 {
-    let mut best = 64;
-    let mut kind = 0;
-    while kind < known {
+    let mut best = None;
+    for kind in 0..known {
         best = nearer(best, kind, size, sizes, many);
-        kind += 1;
     }
     best
 }
@@ -47,12 +52,13 @@ pub(crate) fn weigh_absent(
     if 64 < known {
         return;
     }
-    let mut kind = 0;
-    while kind < known {
+    for kind in 0..known {
         if many[kind] == 0 {
-            let smaller = next_smaller(sizes[kind], known, sizes, many);
-            program[WEIGHTS + kind] = weight_of(smaller, program);
+            let weight = match next_smaller(sizes[kind], known, sizes, many) {
+                Some(smaller) => weight_of(smaller, program),
+                None => 0.0,
+            };
+            program[WEIGHTS + kind] = weight;
         }
-        kind += 1;
     }
 }

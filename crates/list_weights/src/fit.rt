@@ -6,7 +6,7 @@ ghost use Rattle.list_tables.specs.steps.Tables.{tables_size};
 use super::absent::weigh_absent;
 use super::kinds::{count_kinds, first_of, number_kinds, size_of};
 use super::lightest::{fill_rows, take_lightest, weigh_choices};
-use super::simplex::{bring_column, clear_column, no_program, start, weigh_kinds};
+use super::simplex::{bring_column, clear_column, start, weigh_kinds};
 use day_rows::check::Counts;
 use list_tables::rows::length_known;
 use list_tables::shape::{TABLES, WEIGHTS_START};
@@ -18,10 +18,8 @@ const ENOUGH: u16 = 2518;
 fn weigh_heads(choosers: usize, maxs: &[u16], tables: &mut [u16; TABLES])
     requires { length maxs.now ≤ 64 }
 {
-    let mut choice = 0;
-    while choice < maxs.len() {
-        tables[WEIGHTS_START + 64 + choice] = size_of(maxs[choice], choosers) as u16;
-        choice += 1;
+    for (choice, most) in maxs.iter().enumerate() {
+        tables[WEIGHTS_START + 64 + choice] = size_of(*most, choosers) as u16;
     }
 }
 
@@ -62,9 +60,7 @@ fn bring_all(
 )
     requires { ((table < 4) × (choosers ≤ 200)) × ((first ≤ length maxs.now) × (length maxs.now ≤ 64)) }
 {
-    let mut turns = 60usize;
-    while 0 < turns {
-        turns -= 1;
+    for _ in 0..60 {
         if !bring_in(table, first, choosers, known, maxs, kinds, tables, program) {
             return;
         }
@@ -87,7 +83,7 @@ fn fit_table(
     let first = first_of(slots, choosers, maxs);
     let mut many = [0u16; 64];
     count_kinds(first, maxs.len(), kinds, &mut many);
-    let mut program = no_program();
+    let mut program = [0.0f64; 4416];
     start(known, &many, &mut program);
     bring_all(
         table,

@@ -1,17 +1,11 @@
 // Choices of one size are of one kind: the linear program has a row for each kind, not for each choice.
 ghost use Rattle.std.specs.Prelude.{◌+◌, ◌≤◌, length};
 
-use base_pools::number::{less, wide_word};
-
 // How many heads of a choice count in a slot: no more than there are choosers.
 pub(crate) fn size_of(most: u16, choosers: usize) -> usize
     ensures { result ≤ 65535 }
 {
-    let heads = wide_word(most);
-    if choosers < heads {
-        return choosers;
-    }
-    heads
+    usize::from(most).min(choosers)
 }
 
 // The first choice of the day's end: the last from which on the choices can fill so
@@ -21,15 +15,13 @@ pub(crate) fn first_of(slots: usize, choosers: usize, maxs: &[u16]) -> usize
     ensures { result ≤ length maxs.now }
 {
     let mut lack = slots * choosers;
-    let mut first = maxs.len();
-    while 0 < first {
+    for choice in (0..maxs.len()).rev() {
         if lack == 0 {
-            return first;
+            return choice + 1;
         }
-        first -= 1;
-        lack = less(lack, size_of(maxs[first], choosers));
+        lack = lack.saturating_sub(size_of(maxs[choice], choosers));
     }
-    first
+    0
 }
 
 // The kind of a size among the known ones, the next number for a new size.
@@ -37,25 +29,10 @@ fn kind_of(size: usize, known: usize, sizes: &[usize; 64]) -> usize
     requires { known ≤ 64 }
     ensures { result ≤ known }
 {
-    let mut kind = 0;
-    while kind < known {
-        if sizes[kind] == size {
-            return kind;
-        }
-        kind += 1;
-    }
-    kind
-}
-
-// How many kinds are known once the given kind is.
-fn known_with(kind: usize, known: usize) -> usize
-    requires { (kind ≤ known) × (known ≤ 64) }
-    ensures { result ≤ known + 1 }
-{
-    if kind < known {
-        return known;
-    }
-    kind + 1
+    sizes[..known]
+        .iter()
+        .position(|known_size| *known_size == size)
+        .unwrap_or(known)
 }
 
 // Numbers the sizes in the order in which the choices bring them: each kind's size, each choice's
@@ -70,14 +47,12 @@ pub(crate) fn number_kinds(
     ensures { result ≤ 64 }
 {
     let mut known = 0;
-    let mut choice = 0;
-    while choice < maxs.len() {
-        let size = size_of(maxs[choice], choosers);
+    for (choice, most) in maxs.iter().enumerate() {
+        let size = size_of(*most, choosers);
         let kind = kind_of(size, known, sizes);
         sizes[kind] = size;
         kinds[choice] = kind;
-        known = known_with(kind, known);
-        choice += 1;
+        known = known.max(kind + 1);
     }
     known
 }
@@ -86,12 +61,9 @@ pub(crate) fn number_kinds(
 pub(crate) fn count_kinds(first: usize, choices: usize, kinds: &[usize; 64], many: &mut [u16; 64])
     requires { (first ≤ choices) × (choices ≤ 64) }
 {
-    let mut choice = first;
-    while choice < choices {
-        let kind = kinds[choice];
-        if kind < 64 {
-            many[kind] = std::num::wrapping_add_u16(many[kind], 1);
+    for kind in &kinds[first..choices] {
+        if *kind < 64 {
+            many[*kind] = many[*kind].wrapping_add(1);
         }
-        choice += 1;
     }
 }

@@ -3,28 +3,13 @@ ghost use Rattle.std.specs.Prelude.{◌+◌, ◌<◌, ◌≤◌, length};
 ghost use Rattle.list_tables.specs.steps.Tables.{weights_start};
 
 use super::simplex::{COLUMN, weight_of};
-use base_pools::number::{less, wide_word};
 use list_tables::rows::{UNREACHED, smaller_entry};
 use list_tables::shape::{TABLES, WEIGHTS_START};
 
-// A weight in parts of 2,520, to the nearest: halves, thirds and the like up to
-// tenths are whole numbers of them.
+// A weight in parts of 2,520, to the nearest, and no more than 2,520: no weight is more than 1. Halves, thirds
+// and the like up to tenths are whole numbers of such parts.
 fn parts_of(weight: f64) -> u16 {
-    let parts = weight * 2520.0 + 0.5;
-    if parts > -1.0 {
-        if parts < 18446744073709551616.0 {
-            return no_more(std::num::truncating_f64_to_u64(parts));
-        }
-    }
-    0
-}
-
-// A weight in parts of 2,520, cut at 2,520: no weight is more than 1.
-fn no_more(parts: u64) -> u16 {
-    if 2520 < parts {
-        return 2520;
-    }
-    parts as u16
+    std::num::saturating_f64_to_u16(weight * 2520.0 + 0.5).min(2520)
 }
 
 // Gives each choice the weight of its kind in a table.
@@ -37,11 +22,8 @@ pub(crate) fn weigh_choices(
 )
     requires { (table < 4) × (choices ≤ 64) }
 {
-    let mut choice = 0;
-    while choice < choices {
-        let weight = weight_of(kinds[choice], program);
-        tables[WEIGHTS_START + table * 64 + choice] = parts_of(weight);
-        choice += 1;
+    for (choice, kind) in kinds[..choices].iter().enumerate() {
+        tables[WEIGHTS_START + table * 64 + choice] = parts_of(weight_of(*kind, program));
     }
 }
 
@@ -49,11 +31,7 @@ pub(crate) fn weigh_choices(
 fn fill_last(at: usize, choosers: usize, tables: &mut [u16; TABLES])
     requires { (at + 201 ≤ weights_start) × (choosers ≤ 200) }
 {
-    let mut lack = 0;
-    while lack <= choosers {
-        tables[at + lack] = UNREACHED;
-        lack += 1;
-    }
+    tables[at..at + choosers + 1].fill(UNREACHED);
     tables[at] = 0;
 }
 
@@ -62,12 +40,10 @@ fn fill_last(at: usize, choosers: usize, tables: &mut [u16; TABLES])
 fn fill_row(at: usize, choosers: usize, weight: usize, most: usize, tables: &mut [u16; TABLES])
     requires { (at + 402 ≤ weights_start) × ((choosers ≤ 200) × (weight ≤ 65535)) }
 {
-    let mut lack = 0;
-    while lack <= choosers {
+    for lack in 0..choosers + 1 {
         let without = tables[at + 201 + lack];
-        let with = weight + wide_word(tables[at + 201 + less(lack, most)]);
+        let with = weight + usize::from(tables[at + 201 + lack.saturating_sub(most)]);
         tables[at + lack] = smaller_entry(without, with);
-        lack += 1;
     }
 }
 
@@ -81,16 +57,14 @@ pub(crate) fn fill_rows(
 )
     requires { ((table < 4) × (choosers ≤ 200)) × (length maxs.now ≤ 64) }
 {
-    let mut from = maxs.len();
-    fill_last((table * 65 + from) * 201, choosers, tables);
-    while first < from {
-        from -= 1;
-        let weight = wide_word(tables[WEIGHTS_START + table * 64 + from]);
+    fill_last((table * 65 + maxs.len()) * 201, choosers, tables);
+    for from in (first..maxs.len()).rev() {
+        let weight = usize::from(tables[WEIGHTS_START + table * 64 + from]);
         fill_row(
             (table * 65 + from) * 201,
             choosers,
             weight,
-            wide_word(maxs[from]),
+            usize::from(maxs[from]),
             tables,
         );
     }
@@ -115,8 +89,8 @@ fn lack_after(
     if 64 <= kind {
         return lack;
     }
-    program[COLUMN + kind] = program[COLUMN + kind] + 1.0;
-    less(lack, most)
+    program[COLUMN + kind] += 1.0;
+    lack.saturating_sub(most)
 }
 
 // Counts how many choices of each kind the lightest set has, in the column that comes into the basis.
@@ -132,16 +106,14 @@ pub(crate) fn take_lightest(
     requires { ((table < 4) × (choosers ≤ 200)) × ((first ≤ length maxs.now) × (length maxs.now ≤ 64)) }
 {
     let mut lack = choosers;
-    let mut choice = first;
-    while choice < maxs.len() {
+    for choice in first..maxs.len() {
         lack = lack_after(
             (table * 65 + choice) * 201,
             lack,
             kinds[choice],
-            wide_word(maxs[choice]),
+            usize::from(maxs[choice]),
             tables,
             program,
         );
-        choice += 1;
     }
 }

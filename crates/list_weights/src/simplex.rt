@@ -4,7 +4,7 @@
 // are packed as the choices allow.
 // The program's numbers stand in rows of 64: the 64 rows of the basis's inverse,
 // then those that are named here.
-ghost use Rattle.std.specs.Prelude.{◌<◌, ◌≤◌};
+ghost use Rattle.std.specs.Prelude.{◌<◌, ◌≤◌, IfSome};
 
 // How much of each column of the basis is packed.
 const VALUES: usize = 4096;
@@ -21,46 +21,26 @@ pub(crate) const COLUMN: usize = 4288;
 // The set that comes into the basis, by the columns of the basis.
 const TURNED: usize = 4352;
 
-// Room for the program's numbers, all 0.
-pub(crate) fn no_program() -> [f64; 4416] {
-    [0.0; 4416]
-}
-
 // Writes the program's start: no set is packed, every choice is left over.
 pub(crate) fn start(known: usize, many: &[u16; 64], program: &mut [f64; 4416]) {
     if 64 < known {
         return;
     }
-    let mut kind = 0;
-    while kind < known {
+    for kind in 0..known {
         program[kind * 65] = 1.0;
-        program[VALUES + kind] = many[kind] as f64;
-        kind += 1;
+        program[VALUES + kind] = f64::from(many[kind]);
     }
 }
 
-// A weight no less than 0 and no more than 1: rounding may take it past either.
-fn within_one(weight: f64) -> f64 {
-    if weight < 0.0 {
-        return 0.0;
-    }
-    if weight > 1.0 {
-        return 1.0;
-    }
-    weight
-}
-
-// What a kind weighs by the sets that are packed.
+// What a kind weighs by the sets that are packed, from 0 to 1: rounding may take it past either.
 fn kind_weight(kind: usize, known: usize, program: &[f64; 4416]) -> f64
     requires { (kind < 64) × (known ≤ 64) }
 {
     let mut weight = 0.0;
-    let mut row = 0;
-    while row < known {
-        weight = weight + program[COSTS + row] * program[row * 64 + kind];
-        row += 1;
+    for row in 0..known {
+        weight += program[COSTS + row] * program[row * 64 + kind];
     }
-    within_one(weight)
+    weight.clamp(0.0, 1.0)
 }
 
 // Writes the weights of all kinds by the sets that are packed.
@@ -68,11 +48,8 @@ pub(crate) fn weigh_kinds(known: usize, program: &mut [f64; 4416]) {
     if 64 < known {
         return;
     }
-    let mut kind = 0;
-    while kind < known {
-        let weight = kind_weight(kind, known, program);
-        program[WEIGHTS + kind] = weight;
-        kind += 1;
+    for kind in 0..known {
+        program[WEIGHTS + kind] = kind_weight(kind, known, program);
     }
 }
 
@@ -89,11 +66,7 @@ pub(crate) fn clear_column(known: usize, program: &mut [f64; 4416]) {
     if 64 < known {
         return;
     }
-    let mut kind = 0;
-    while kind < known {
-        program[COLUMN + kind] = 0.0;
-        kind += 1;
-    }
+    program[COLUMN..COLUMN + known].fill(0.0);
 }
 
 // One number of the set that comes into the basis, by the columns of the basis.
@@ -101,10 +74,8 @@ fn turned_at(row: usize, known: usize, program: &[f64; 4416]) -> f64
     requires { (row < 64) × (known ≤ 64) }
 {
     let mut sum = 0.0;
-    let mut kind = 0;
-    while kind < known {
-        sum = sum + program[row * 64 + kind] * program[COLUMN + kind];
-        kind += 1;
+    for kind in 0..known {
+        sum += program[row * 64 + kind] * program[COLUMN + kind];
     }
     sum
 }
@@ -113,11 +84,8 @@ fn turned_at(row: usize, known: usize, program: &[f64; 4416]) -> f64
 fn turn_column(known: usize, program: &mut [f64; 4416])
     requires { known ≤ 64 }
 {
-    let mut row = 0;
-    while row < known {
-        let turned = turned_at(row, known, program);
-        program[TURNED + row] = turned;
-        row += 1;
+    for row in 0..known {
+        program[TURNED + row] = turned_at(row, known, program);
     }
 }
 
@@ -130,20 +98,19 @@ fn ratio_of(value: f64, turned: f64) -> f64 {
     1.0e18
 }
 
-// The column that is used up first and leaves the basis, 64 if there is none.
-fn leaving_row(known: usize, program: &[f64; 4416]) -> usize
+// The column that is used up first and leaves the basis, if there is one.
+fn leaving_row(known: usize, program: &[f64; 4416]) -> Option<usize>
     requires { known ≤ 64 }
+    ensures { IfSome result (λ row. row < 64) }
 {
-    let mut leaving = 64;
+    let mut leaving = None;
     let mut least = 1.0e18;
-    let mut row = 0;
-    while row < known {
+    for row in 0..known {
         let ratio = ratio_of(program[VALUES + row], program[TURNED + row]);
         if ratio < least {
             least = ratio;
-            leaving = row;
+            leaving = Some(row);
         }
-        row += 1;
     }
     leaving
 }
@@ -153,12 +120,10 @@ fn divide_row(row: usize, known: usize, program: &mut [f64; 4416])
     requires { (row < 64) × (known ≤ 64) }
 {
     let divisor = program[TURNED + row];
-    let mut kind = 0;
-    while kind < known {
-        program[row * 64 + kind] = program[row * 64 + kind] / divisor;
-        kind += 1;
+    for number in program[row * 64..row * 64 + known].iter_mut() {
+        *number /= divisor;
     }
-    program[VALUES + row] = program[VALUES + row] / divisor;
+    program[VALUES + row] /= divisor;
     program[COSTS + row] = 1.0;
 }
 
@@ -170,12 +135,10 @@ fn reduce_row(other: usize, row: usize, known: usize, program: &mut [f64; 4416])
     if times == 0.0 {
         return;
     }
-    let mut kind = 0;
-    while kind < known {
-        program[other * 64 + kind] = program[other * 64 + kind] - times * program[row * 64 + kind];
-        kind += 1;
+    for kind in 0..known {
+        program[other * 64 + kind] -= times * program[row * 64 + kind];
     }
-    program[VALUES + other] = program[VALUES + other] - times * program[VALUES + row];
+    program[VALUES + other] -= times * program[VALUES + row];
 }
 
 // Puts the set in the leaving column's place in the basis.
@@ -183,12 +146,10 @@ fn pivot(row: usize, known: usize, program: &mut [f64; 4416])
     requires { (row < 64) × (known ≤ 64) }
 {
     divide_row(row, known, program);
-    let mut other = 0;
-    while other < known {
+    for other in 0..known {
         if other != row {
             reduce_row(other, row, known, program);
         }
-        other += 1;
     }
 }
 
@@ -198,10 +159,9 @@ pub(crate) fn bring_column(known: usize, program: &mut [f64; 4416]) -> bool {
         return false;
     }
     turn_column(known, program);
-    let row = leaving_row(known, program);
-    if 64 <= row {
+    let Some(row) = leaving_row(known, program) else {
         return false;
-    }
+    };
     pivot(row, known, program);
     true
 }

@@ -1,6 +1,5 @@
 -- Omission leaves the sums alone; a slot gives the minimum back.
 use mathlib.Core.List.{[]}
-use native.Mathlib.Omega.{arith}
 use lib.Arith.{lt_of_le-ne}
 use Rattle.list_nodes.proofs.PlaceLaws.{without_omission, without-slot}
 use Rattle.list_all.proofs.plans.leave_place.Goals as goal
@@ -9,13 +8,7 @@ pub returns-then-place-slots : goal.returns-then-place-slots
 returns-then-place-slots c =
     without_omission _ 0 _ [] _ _ _ c.if-place-slots.true c.requires.few-slots
 
-pub overflow_sub-slot_min : goal.overflow_sub-slot_min
-overflow_sub-slot_min c =
-    let s = c in
-    let h = lt_of_le-ne s.requires.so_far c.if-place-slots.false in
-    omega (arith, s.requires.held h, c.wide_word.ensures.0)
-
 pub returns : goal.returns
 returns c =
     let s = c in
-    without-slot _ 0 _ [] _ _ _ (lt_of_le-ne s.requires.so_far c.if-place-slots.false) c.wide_word.ensures.0
+    without-slot _ 0 _ [] _ _ _ (lt_of_le-ne s.requires.so_far c.if-place-slots.false) c.from.ensures

@@ -1,6 +1,5 @@
 -- Omission changes no sum; a slot takes the minimum.
 use mathlib.Core.List.{[]}
-use native.Mathlib.Omega.{arith}
 use lib.Arith.{lt_of_le-ne}
 use Rattle.list_nodes.proofs.PlaceLaws.{put_omission, with_omission, put-slot, with_slot}
 use Rattle.list_all.proofs.plans.take_place.Goals as goal
@@ -10,13 +9,8 @@ returns-then-place-slots c =
     let s = c in
     (put_omission _ 0 [] [] [] s.args.choice _ c.if-place-slots.true s.requires.4 s.args.plan.now.now, with_omission _ 0 _ [] _ _ _ c.if-place-slots.true s.requires.4)
 
-pub offset_bounds-mins-choice : goal.offset_bounds-mins-choice
-offset_bounds-mins-choice c =
-    let s = c in
-    record { fits = omega (arith, s.requires.0, s.requires.1) }
-
 pub returns : goal.returns
 returns c =
     let s = c in
     let h = lt_of_le-ne s.requires.3 c.if-place-slots.false in
-    (put-slot _ 0 [] [] [] s.args.choice _ h s.args.plan.now.now, with_slot _ 0 _ [] _ _ _ h c.wide_word.ensures.0)
+    (put-slot _ 0 [] [] [] s.args.choice _ h s.args.plan.now.now, with_slot _ 0 _ [] _ _ _ h c.from.ensures)

@@ -1,6 +1,5 @@
 use mathlib.Core.Path.{◌∙◌}
 use native.Mathlib.Nat.{pos_of_ne-zero}
-use native.Mathlib.Omega.{arith}
 use Rattle.list_nodes.proofs.PlaceLaws.{open_none, open_here, open_after}
 use Rattle.list_starts.proofs.OpenLaws.{place-told}
 use Rattle.list_starts.proofs.places.+first_open.Goals as goal
@@ -9,23 +8,9 @@ pub returns-then-left-eq0 : goal.returns-then-left-eq0
 returns-then-left-eq0 t c =
     open_none _ _ _ _ _ _ c.if-left-eq0.true
 
-pub fits-requires : goal.fits-requires
-fits-requires t c =
-    let s = c in
-    (s.requires, omega (arith, c.place_at-place.ensures))
-
 pub returns-then-fits : goal.returns-then-fits
 returns-then-fits t c =
     open_here _ _ _ _ _ _ _ c.if-left-eq0.false (place-told _ _ (pos_of_ne-zero c.if-left-eq0.false) c.place_at-place.ensures) c.fits.ensures c.if-fits.true
-
-pub overflow_sub-left : goal.overflow_sub-left
-overflow_sub-left t c =
-    omega (arith, pos_of_ne-zero c.if-left-eq0.false)
-
-pub first_open-requires : goal.first_open-requires
-first_open-requires t c =
-    let s = c in
-    (omega (arith, s.decreases, pos_of_ne-zero c.if-left-eq0.false), s.requires)
 
 pub returns : goal.returns
 returns t c =

@@ -18,4 +18,4 @@ returns-then-lack-ge201 c =
 
 pub returns : goal.returns
 returns c =
-    (c.wide_word.ensures.0 ∙ entry_in _ _ _ _ c.if-table-ge4.false c.if-from-ge65.false c.if-lack-ge201.false, c.wide_word.ensures.1)
+    (c.from.ensures ∙ entry_in _ _ _ _ c.if-table-ge4.false c.if-from-ge65.false c.if-lack-ge201.false, (omega arith))

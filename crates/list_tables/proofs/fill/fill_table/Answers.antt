@@ -1,24 +1,15 @@
-use Prim.Native.Nat.{◌-◌}
 use native.Mathlib.Omega.{arith}
 use Rattle.list_tables.proofs.TableLaws.{filled-last, filled_row, filled-rows}
 use Rattle.list_tables.proofs.fill.fill_table.Goals as goal
 
-pub fill_last-requires : goal.fill_last-requires
-fill_last-requires c =
-    (omega (arith, c.requires.choices_bound), c.requires.tables_len)
-
 pub loop-from-init : goal.loop-from-init
 loop-from-init c =
-    (omega arith, filled-last _ _ _ _ _ c.requires.choices_bound.0.0 c.requires.choices_bound.0.1 c.requires.choices_bound.1.0 c.requires.tables_len c.fill_last.ensures)
-
-pub fill_row-requires : goal.fill_row-requires
-fill_row-requires c =
-    ((omega (arith, c.requires.choices_bound, c.loop-from.invariant.0, c.loop-from-test.true), omega (arith, c.requires.choices_bound)), (c.weight_at-weight.ensures.1, c.loop-from.invariant.1.size))
+    (filled-last _ _ _ _ _ c.requires.choices_bound.0.0 c.requires.choices_bound.0.1 c.requires.choices_bound.1.0 c.requires.tables_len c.fill_last.ensures)
 
 pub loop-from-preserved : goal.loop-from-preserved
 loop-from-preserved c =
-    (omega (arith, c.loop-from.invariant.0), filled_row _ _ _ _ _ _ _ _ _ _ c.requires.choices_bound.0.0 c.requires.choices_bound.0.1 c.requires.choices_bound.1.0 (omega (arith, c.loop-from-test.true)) c.loop-from.invariant.0 c.weight_at-weight.ensures.0 c.wide_word-most.ensures.0 c.loop-from.invariant.1 c.fill_row.ensures)
+    (filled_row _ _ _ _ _ _ _ _ _ _ c.requires.choices_bound.0.0 c.requires.choices_bound.0.1 c.requires.choices_bound.1.0 (omega (arith, c.loop-from-test.true)) (omega (arith, c.loop-from-test.true)) c.weight_at-weight.ensures.0 c.from-most.ensures c.loop-from.invariant c.fill_row.ensures)
 
 pub returns : goal.returns
 returns c =
-    filled-rows _ _ _ _ _ _ _ c.requires.choices_bound.0.0 c.requires.choices_bound.0.1 c.requires.choices_bound.1.0 c.requires.tables_len c.fill_last.ensures (omega (arith, c.loop-from-test.false)) c.loop-from.invariant.1
+    filled-rows _ _ _ _ _ _ _ c.requires.choices_bound.0.0 c.requires.choices_bound.0.1 c.requires.choices_bound.1.0 c.requires.tables_len c.fill_last.ensures (omega (arith, c.loop-from-test.false)) c.loop-from.invariant

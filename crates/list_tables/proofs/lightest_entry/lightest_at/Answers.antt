@@ -22,4 +22,4 @@ returns-then-count-ge65 c =
 
 pub returns : goal.returns
 returns c =
-    (c.wide_word.ensures.0 ∙ lightest_in _ _ _ _ c.if-count-eq0.false c.if-table-ge4.false c.if-from-ge65.false c.if-count-ge65.false, c.wide_word.ensures.1)
+    (c.from.ensures ∙ lightest_in _ _ _ _ c.if-count-eq0.false c.if-table-ge4.false c.if-from-ge65.false c.if-count-ge65.false, (omega arith))

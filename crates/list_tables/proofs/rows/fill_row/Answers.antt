@@ -1,7 +1,6 @@
-use mathlib.Core.Path.{ap, ◌≡◌, refl}
-use Prim.Native.Nat.{ℕ, ◌+◌, ◌-◌}
+use mathlib.Core.Path.{ap, refl}
+use Prim.Native.Nat.{ℕ, ◌+◌}
 use native.Mathlib.Omega.{arith}
-use lib.ListN.{length-set}
 use borrow.Author.Rules.{rules}
 use Rattle.list_tables.specs.steps.Tables.{written}
 use Rattle.list_tables.proofs.TableLaws.{row_step}
@@ -14,8 +13,4 @@ loop-lack-init c =
 
 pub loop-lack-preserved : goal.loop-lack-preserved
 loop-lack-preserved c =
-    ((search rules, simp length-set c.loop-lack.invariant.0.1), row_step c.args.width _ _ _ _ _ _ _ _ _ _ c.loop-lack.invariant.1 (omega (arith, c.loop-lack-test.true, c.requires.0.1)) refl c.less.ensures (ap (λ (x : ℕ). c.args.weight + x) c.wide_word.ensures.0) c.smaller_entry.ensures)
-
-pub returns : goal.returns
-returns c =
-    let e : c.loop-lack.lack ≡ c.args.entries = omega (arith, c.loop-lack-test.false, c.loop-lack.invariant.0.0) in rw e at c.loop-lack.invariant.1
+    row_step c.args.width _ _ _ _ _ _ _ _ _ _ c.loop-lack.invariant (omega (arith, c.loop-lack-test.true, c.requires.0.1)) refl c.saturating_sub.ensures (ap (λ (x : ℕ). c.args.weight + x) c.from.ensures) c.smaller_entry.ensures

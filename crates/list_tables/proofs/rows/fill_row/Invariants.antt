@@ -1,14 +1,8 @@
 -- The loop's invariant: the first entries of the row are written, by the row after it as it was.
 use mathlib.Core.Path.{◌≡◌}
-use Prim.Native.Nat.{◌-◌, ◌≤◌}
-use lib.ListN.{length}
 use Rattle.list_tables.specs.steps.Tables.{written, next_entry}
 use Rattle.list_tables.proofs.rows.fill_row.Given as goal
 
 abbrev pub invariant-loop-lack : goal.invariant-loop-lack
 invariant-loop-lack l =
-    ((l.lack ≤ l.entries) × (length l.tables ≡ 69416)) × (l.tables ≡ written l.lack l.at (next_entry l.width l.initial.tables l.at l.weight l.most) l.initial.tables)
-
-abbrev pub decreases-loop-lack : goal.decreases-loop-lack
-decreases-loop-lack l =
-    l.entries - l.lack
+    l.tables ≡ written l.lack l.at (next_entry l.width l.initial.tables l.at l.weight l.most) l.initial.tables

@@ -14,4 +14,4 @@ returns-then-choice-ge64 c =
 
 pub returns : goal.returns
 returns c =
-    (c.wide_word.ensures.0 ∙ weight_in _ _ _ c.if-table-ge4.false c.if-choice-ge64.false, c.wide_word.ensures.1)
+    (c.from.ensures ∙ weight_in _ _ _ c.if-table-ge4.false c.if-choice-ge64.false, (omega arith))

@@ -1,11 +1,6 @@
--- The loop runs over the kinds.
-use Rattle.std.proofs.Common.{◌-◌, ◌≤◌}
+-- The best kind so far is one of the 64.
+use Rattle.std.proofs.Common.{◌<◌, IfSome}
 use Rattle.list_weights.proofs.absent.next_smaller.Given as goal
 
 abbrev pub invariant-loop-kind : goal.invariant-loop-kind
-invariant-loop-kind l =
-    l.kind ≤ l.known
-
-abbrev pub decreases-loop-kind : goal.decreases-loop-kind
-decreases-loop-kind l =
-    l.known - l.kind
+invariant-loop-kind l = IfSome l.best (λ b. b < 64)

@@ -1,11 +1,6 @@
 -- The lack never grows.
-use Rattle.std.proofs.Common.{◌-◌, ◌≤◌, length}
+use Rattle.std.proofs.Common.{◌≤◌}
 use Rattle.list_weights.proofs.lightest.take_lightest.Given as goal
 
 abbrev pub invariant-loop-choice : goal.invariant-loop-choice
-invariant-loop-choice l =
-    (l.lack ≤ 200) × (l.choice ≤ length l.maxs)
-
-abbrev pub decreases-loop-choice : goal.decreases-loop-choice
-decreases-loop-choice l =
-    length l.maxs - l.choice
+invariant-loop-choice l = l.lack ≤ 200

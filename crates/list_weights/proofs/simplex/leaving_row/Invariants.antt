@@ -1,11 +1,6 @@
--- The loop runs over the columns of the basis.
-use Rattle.std.proofs.Common.{◌-◌, ◌≤◌}
+-- The column that leaves is one of the 64.
+use Rattle.std.proofs.Common.{◌<◌, IfSome}
 use Rattle.list_weights.proofs.simplex.leaving_row.Given as goal
 
 abbrev pub invariant-loop-row : goal.invariant-loop-row
-invariant-loop-row l =
-    l.row ≤ l.known
-
-abbrev pub decreases-loop-row : goal.decreases-loop-row
-decreases-loop-row l =
-    l.known - l.row
+invariant-loop-row l = IfSome l.leaving (λ row. row < 64)
