@@ -1,5 +1,5 @@
 -- A file's body, judged on its bytes, is its lists judged.
-use mathlib.Core.Path.{◌≡◌, sym, ◌∙◌, ap}
+use mathlib.Core.Path.{◌≡◌, sym, ◌∙◌}
 use mathlib.Core.Bool.{Bool, true, false}
 use mathlib.Core.List.{List}
 use Prim.Native.Nat.{ℕ, ◌+◌, ◌*◌, ◌-◌, ◌≤◌, ◌<◌}
@@ -15,8 +15,7 @@ use Rattle.base_lists.proofs.Through.{all_ext}
 use Rattle.base_lists.proofs.Flat.{length-list, get_d_list}
 use Rattle.day_rows.specs.Row.{row_number}
 use Rattle.day_rows.specs.Levels.{levels_rise, last_level}
-use Rattle.day_file.specs.File.{word_at, sign_bit_flipped, row_at, counts_in}
-use Rattle.day_file.specs.declared.counts.FileCounts.{FileCounts}
+use Rattle.day_file.specs.File.{word_at, sign_bit_flipped, row_at}
 
 -- the columns that were read are the row's
 pub row_read : (file : List ℕ) (at : ℕ) {kind left right extra word number : ℕ}
@@ -24,12 +23,6 @@ pub row_read : (file : List ℕ) (at : ℕ) {kind left right extra word number :
     → number ≡ row_number (record { kind = kind; left = left; right = right; extra = extra }) → number ≡ row_at file at
 unfolding row_at row_number
 row_read file at k l r w x n = n ∙ rw (k, l, r, x, w)
-
--- the counts that were read are the file's
-pub counts-read : (file : List ℕ) {rows : ℕ} → rows ≡ word_at file 9
-    → ◌≡◌ {A = FileCounts} (record { choices = get_or file 5 0; slots = get_or file 6 0; choosers = get_or file 7 0; levels = get_or file 8 0; rows = rows }) (counts_in file)
-counts-read file e =
-    ap (λ (rows : ℕ). record { choices = get_or file 5 0; slots = get_or file 6 0; choosers = get_or file 7 0; levels = get_or file 8 0; rows = rows }) e
 
 -- the test of levels that rise, on words of the file
 abbrev pub rising : List ℕ → ℕ → ℕ → Bool

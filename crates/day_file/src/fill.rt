@@ -6,7 +6,8 @@ ghost use Rattle.day_file.specs.File.{word_at, row_at};
 
 use super::word::{row_at, word_at};
 
-// Puts the n words that stand `step` bytes apart in the file into the front of a pool.
+// Puts the n words that stand `step` bytes apart in the file into the front of a pool. Words, optional bytes
+// and rows have a function each, since each read asks (`requires`) for its own bytes.
 fn put_words(file: &[u8], at: usize, step: usize, n: usize, pool: &mut [u16])
     requires fact_1 { n ≤ length pool.old }
     requires fact_2 { ((k : ℕ) → k < n → at + step * k + 1 < length file.now) }

@@ -55,13 +55,6 @@ row_put pool at number {row} {extra} r x p q =
     rw (q, p, x, one, two, four)
     (ap (λ (z : Row). sets pool at (z.kind ∷ z.left ∷ (word z.right ++ word (sign_bit_flipped z.extra)))) r)
 
--- kind and left of a row that holds the table fit a byte each
-pub kind_fits : (number : ℕ) {row : Row} → row ≡ row_of number → BytesHold number → row.kind < 256
-kind_fits number r h = rw (ap (λ (z : Row). z.kind) r) h.0
-
-pub left-fits : (number : ℕ) {row : Row} → row ≡ row_of number → BytesHold number → row.left < 256
-left-fits number r h = rw (ap (λ (z : Row). z.left) r) h.1
-
 -- the choice that was put is the list's
 pub choice-is : (pool : List ℕ) (at : ℕ) (mins maxs optional : List ℕ) (i : ℕ) {new : List ℕ}
     → new ≡ sets pool at (word (get_or mins i 0) ++ (word (get_or maxs i 0) ++ (get_or optional i 0 ∷ []))) → new ≡ sets pool at (choice_bytes mins maxs optional i)

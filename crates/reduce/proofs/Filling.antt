@@ -25,7 +25,7 @@ use Rattle.reduce_turn.specs.Turn.{turned_rows}
 use Rattle.reduce_added.specs.Groups.{same_choosers, joins}
 use Rattle.reduce_added.specs.Pairs.{group_pairs, mandatory_pairs}
 use Rattle.reduce_added.specs.Copies.{copies_all}
-use Rattle.reduce.specs.steps.Expand.{PoolFilled, Small, PoolLent}
+use Rattle.reduce.specs.steps.Expand.{PoolFilled, Small}
 use Rattle.reduce.specs.Reduction.{added_to, expanded}
 use Rattle.day_rows.specs.declared.check.Counts.{Counts}
 use Rattle.reduce_turn.proofs.Turning.{turned-rows-most}
@@ -142,12 +142,6 @@ module _ (rows numbers : List ℕ) (count : ℕ) (r : length rows ≤ 128) (firs
 
   pub turned-length : count ≡ length (take count numbers)
   turned-length = turned-count ∙ ap length (sym turned-is)
-
-  -- the turned rows read back are no more than the given rows
-  pub given-turned : {counts : Counts} {pool : ℕ} → PoolLent counts (length rows) pool → PoolLent counts (length (take count numbers)) pool
-  given-turned g =
-      let l : length (take count numbers) ≡ length (turned_rows rows) = ap length turned-is in
-      record { choices_in = g.choices_in; choosers_in = g.choosers_in; rows_in = omega (arith, turned-rows-most rows); pool-is = g.pool-is }
 
 -- the groups as they were read back are the rows' groups
 pub filled-added : (choices choosers : ℕ) (rows members ends pool exit : List ℕ) (count : ℕ) → cut_at 0 ends members ≡ same_choosers choices rows

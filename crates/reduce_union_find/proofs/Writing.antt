@@ -104,7 +104,3 @@ module _ (r n : ℕ) (f : ℕ → ℕ) (count at : ℕ) (members ends : List ℕ
 pub groups-done : (n : ℕ) (f : ℕ → ℕ) (count at : ℕ) (members ends : List ℕ) → Written (groups_to n n f) count at members ends → outcome (done count) (members, ends) ≡ groups_written (classes n f)
 unfolding groups_written classes
 groups-done n f count at members ends w = rw (w.count-is, w.members-is, w.ends_is)
-
--- a pool with nothing in it yet is 64 long
-pub none-length : (pool : List ℕ) → pool ≡ pad 64 [] → length pool ≡ 64
-none-length pool e = ap length e ∙ length-pad 64 [] (omega arith)
