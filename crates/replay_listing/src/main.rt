@@ -9,7 +9,9 @@ use list_page::page::list_page;
 use list_starts::page_end::Paged;
 use std::io;
 use test_cases::replay::replay_all;
-use test_cases::{BLANK, byte, first, is_filled, number, read_bytes, read_numbers, read_words, word};
+use test_cases::{
+    BLANK, byte, first, is_filled, number, read_bytes, read_numbers, read_words, word,
+};
 
 mod expected;
 
@@ -255,6 +257,11 @@ fn agrees(bytes: &[u8], buffer: &mut [u8]) -> bool {
 fn main(rt: HostRuntime) -> io::Result<()> {
     let mut record = [0u8; 12800];
     let mut buffer = [0u8; 12800];
-    let tally = replay_all(&rt, b"cases", &mut record, |bytes| agrees(bytes, &mut buffer));
+    let tally = replay_all(
+        &rt,
+        b"cases",
+        &mut record,
+        |bytes| agrees(bytes, &mut buffer),
+    );
     tally.tell(&rt, b"listing")
 }

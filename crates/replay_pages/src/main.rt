@@ -45,14 +45,7 @@ fn reduce_day(
         choosers: counts.choosers,
         rows: searched,
     };
-    list_day(
-        rt,
-        with_rows,
-        mins,
-        maxs,
-        optional,
-        first(&pool, searched),
-    )
+    list_day(rt, with_rows, mins, maxs, optional, first(&pool, searched))
 }
 
 // Reads the day of a file, and reduces and lists it.

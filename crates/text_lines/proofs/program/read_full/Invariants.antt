@@ -1,6 +1,6 @@
 -- No more was read than the list has room for.
 use Rattle.std.proofs.Common.{◌-◌, ◌≤◌, length}
-use Rattle.plans.proofs.read_full.Given as goal
+use Rattle.text_lines.proofs.program.read_full.Given as goal
 
 abbrev pub invariant-loop-done : goal.invariant-loop-done
 invariant-loop-done g l = l.done ≤ length l.bytes
