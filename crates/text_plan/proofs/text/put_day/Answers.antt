@@ -13,13 +13,13 @@ use Rattle.text_plan.proofs.text.put_day.Goals as goal
 pub returns-then-reduction : goal.returns-then-reduction
 returns-then-reduction c =
     let s = c in
-    let r = rows_case _ _ _ _ _ s.requires.fact_1 (replicate 1024 0) zeros-full (as_counted s.args.rows.now rows.result c.for_rows.ensures c.reduce-reduced.ensures) c.in-Rows.is in
+    let r = rows_case _ _ _ _ _ s.requires.fact_1 (replicate 1024 0) zeros-full (as_counted s.args.rows.now (replicate 1024 0) c.for_rows.ensures c.reduce-reduced.ensures) c.in-Rows.is in
     put_as _ _ (clash-is ∙ ap answer_text (reduce-clash s.args.counts s.args.mins.now s.args.maxs.now s.args.optional.now s.args.levels.now s.args.preferences.now s.args.rows.now (clash-told _ _ _ _ _ s.requires.fact_1 r c.if-reduction.true))) c.put_clash.ensures
 
 pub slice_bounds-pool-end : goal.slice_bounds-pool-end
 slice_bounds-pool-end c =
     let s = c in
-    let r = rows_case _ _ _ _ _ s.requires.fact_1 (replicate 1024 0) zeros-full (as_counted s.args.rows.now rows.result c.for_rows.ensures c.reduce-reduced.ensures) c.in-Rows.is in
+    let r = rows_case _ _ _ _ _ s.requires.fact_1 (replicate 1024 0) zeros-full (as_counted s.args.rows.now (replicate 1024 0) c.for_rows.ensures c.reduce-reduced.ensures) c.in-Rows.is in
     let f = count_fits _ _ _ _ _ s.requires.fact_1 r in
     let l = pool-length _ _ _ _ _ s.requires.fact_1 r in
     omega (arith, f, l)
@@ -27,7 +27,7 @@ slice_bounds-pool-end c =
 pub slice_bounds-search_count-end : goal.slice_bounds-search_count-end
 slice_bounds-search_count-end c =
     let s = c in
-    let r = rows_case _ _ _ _ _ s.requires.fact_1 (replicate 1024 0) zeros-full (as_counted s.args.rows.now rows.result c.for_rows.ensures c.reduce-reduced.ensures) c.in-Rows.is in
+    let r = rows_case _ _ _ _ _ s.requires.fact_1 (replicate 1024 0) zeros-full (as_counted s.args.rows.now (replicate 1024 0) c.for_rows.ensures c.reduce-reduced.ensures) c.in-Rows.is in
     let f = count_fits _ _ _ _ _ s.requires.fact_1 r in
     let l = pool-length _ _ _ _ _ s.requires.fact_1 r in
     sym (length-take-le _ _ (omega (arith, f, l)))
@@ -35,13 +35,13 @@ slice_bounds-search_count-end c =
 pub slice_bounds-pool-end-in-Rows : goal.slice_bounds-pool-end-in-Rows
 slice_bounds-pool-end-in-Rows c =
     let s = c in
-    let r = rows_case _ _ _ _ _ s.requires.fact_1 (replicate 1024 0) zeros-full (as_counted s.args.rows.now rows.result c.for_rows.ensures c.reduce-reduced.ensures) c.in-Rows.is in
+    let r = rows_case _ _ _ _ _ s.requires.fact_1 (replicate 1024 0) zeros-full (as_counted s.args.rows.now (replicate 1024 0) c.for_rows.ensures c.reduce-reduced.ensures) c.in-Rows.is in
     searches_fit _ _ _ _ _ s.requires.fact_1 r c.search_count-searched.ensures
 
 pub slice_bounds-put_search-end : goal.slice_bounds-put_search-end
 slice_bounds-put_search-end c =
     let s = c in
-    let r = rows_case _ _ _ _ _ s.requires.fact_1 (replicate 1024 0) zeros-full (as_counted s.args.rows.now rows.result c.for_rows.ensures c.reduce-reduced.ensures) c.in-Rows.is in
+    let r = rows_case _ _ _ _ _ s.requires.fact_1 (replicate 1024 0) zeros-full (as_counted s.args.rows.now (replicate 1024 0) c.for_rows.ensures c.reduce-reduced.ensures) c.in-Rows.is in
     sym (length-take-le _ _ (searches_fit _ _ _ _ _ s.requires.fact_1 r c.search_count-searched.ensures))
 
 pub put_search-requires : goal.put_search-requires
@@ -52,7 +52,7 @@ put_search-requires c =
 pub returns-else-reduction : goal.returns-else-reduction
 returns-else-reduction c =
     let s = c in
-    let r = rows_case _ _ _ _ _ s.requires.fact_1 (replicate 1024 0) zeros-full (as_counted s.args.rows.now rows.result c.for_rows.ensures c.reduce-reduced.ensures) c.in-Rows.is in
+    let r = rows_case _ _ _ _ _ s.requires.fact_1 (replicate 1024 0) zeros-full (as_counted s.args.rows.now (replicate 1024 0) c.for_rows.ensures c.reduce-reduced.ensures) c.in-Rows.is in
     let n = c.search_count-searched.ensures in
     let l = reduce-ready s.args.counts s.args.mins.now s.args.maxs.now s.args.optional.now s.args.levels.now s.args.preferences.now s.args.rows.now c.plan_counts.ensures (ready-told _ _ _ _ _ s.requires.fact_1 r c.if-reduction.false) (searches_are _ _ _ _ _ s.requires.fact_1 r n) (searches_front _ _ _ _ _ s.requires.fact_1 r n) in
     put_as _ _ (ap answer_text l) c.put_search.ensures
@@ -60,5 +60,5 @@ returns-else-reduction c =
 pub returns-in-Refused : goal.returns-in-Refused
 returns-in-Refused c =
     let s = c in
-    let l = refused_case _ _ _ _ _ s.requires.fact_1 (replicate 1024 0) zeros-full (as_counted s.args.rows.now rows.result c.for_rows.ensures c.reduce-reduced.ensures) c.in-Refused.is in
+    let l = refused_case _ _ _ _ _ s.requires.fact_1 (replicate 1024 0) zeros-full (as_counted s.args.rows.now (replicate 1024 0) c.for_rows.ensures c.reduce-reduced.ensures) c.in-Refused.is in
     put_as _ _ (refused-is _ ∙ ap answer_text (reduce-refused s.args.counts s.args.mins.now s.args.maxs.now s.args.optional.now s.args.levels.now s.args.preferences.now s.args.rows.now l)) c.put_refusal.ensures
