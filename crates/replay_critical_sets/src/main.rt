@@ -5,10 +5,10 @@ use day_rows::refusal::Refusal;
 use sets_analysis::analysis::{Analysis, Analyzed, analyze};
 use sets_analysis::day::SetsCounts;
 use sets_levels::level_list::{Listed, level_list};
-use std::fs::{File, Files};
 use std::io;
-use test_cases::replay::Replay;
-use test_cases::{Tally, byte, number, plus, word};
+use test_cases::parts::entries_agree;
+use test_cases::replay::replay_all;
+use test_cases::{byte, number, plus, word};
 
 // What a pool holds before a call, so that what the call left alone shows.
 const BLANK: u64 = 119;
@@ -32,38 +32,12 @@ fn members_agree(bytes: &[u8], at: usize, count: usize, pool: &[u64]) -> bool {
     if count != word(bytes, at) as usize {
         return false;
     }
-    let mut place = plus(at, 4);
-    let mut i = 0;
-    while i < pool.len() {
-        if i < count {
-            if pool[i] != number(bytes, place) {
-                return false;
-            }
-        } else if pool[i] != 0 {
-            return false;
-        }
-        place = plus(place, 10);
-        i += 1;
-    }
-    true
+    entries_agree(bytes, plus(at, 4), 10, number, count, pool, 0)
 }
 
 // Whether the pool holds the levels of a list of sets, and zeros after them.
 fn levels_agree(bytes: &[u8], at: usize, count: usize, pool: &[u16]) -> bool {
-    let mut place = plus(at, 2);
-    let mut i = 0;
-    while i < pool.len() {
-        if i < count {
-            if pool[i] != word(bytes, place) {
-                return false;
-            }
-        } else if pool[i] != 0 {
-            return false;
-        }
-        place = plus(place, 10);
-        i += 1;
-    }
-    true
+    entries_agree(bytes, plus(at, 2), 10, word, count, pool, 0)
 }
 
 // Whether the list of one limit is the Rust's.
@@ -95,13 +69,11 @@ fn lists_agree(
     count: usize,
 ) -> bool {
     let mut at = from;
-    let mut i = 0;
-    while i < levels.len() {
-        if !list_agrees(bytes, at, levels[i], levels, masks, set_levels, count) {
+    for level in levels {
+        if !list_agrees(bytes, at, *level, levels, masks, set_levels, count) {
             return false;
         }
         at = after_list(bytes, at);
-        i += 1;
     }
     list_agrees(bytes, at, limit, levels, masks, set_levels, count)
 }
@@ -209,23 +181,14 @@ fn agrees(bytes: &[u8]) -> bool {
         bytes,
         preferences_at + 2 * cells,
         counts,
-        test_cases::first_words(&mins, counts.choices),
-        test_cases::first_words(&levels, counts.levels),
-        test_cases::first_words(&preferences, cells),
+        test_cases::first(&mins, counts.choices),
+        test_cases::first(&levels, counts.levels),
+        test_cases::first(&preferences, cells),
     )
-}
-
-// Judges every record of the file of cases.
-fn replay(rt: &impl Files<File = File>, record: &mut [u8]) -> Tally {
-    let mut run = Replay::of(rt, b"cases", record);
-    while 0 < run.left {
-        run = run.next(agrees(record), record);
-    }
-    run.tally
 }
 
 fn main(rt: HostRuntime) -> io::Result<()> {
     let mut record = [0u8; 32768];
-    let tally = replay(&rt, &mut record);
+    let tally = replay_all(&rt, b"cases", &mut record, agrees);
     tally.tell(&rt, b"critical_sets")
 }

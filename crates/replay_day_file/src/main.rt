@@ -4,11 +4,10 @@
 use day_file::counts::FileCounts;
 use day_file::read::{Read, read_day};
 use day_rows::refusal::Refusal;
-use std::fs::{File, Files};
 use std::io;
-use test_cases::parts::{rows_agree, rows_are, words_agree, words_are};
-use test_cases::replay::Replay;
-use test_cases::{Tally, byte, is_filled, plus, same, word};
+use test_cases::parts::{all_are, rows_agree, words_agree};
+use test_cases::replay::replay_all;
+use test_cases::{byte, is_filled, plus, same, word};
 
 // What the pools hold before a call, to see that a refusal leaves them.
 const BEFORE: u8 = 9;
@@ -86,22 +85,22 @@ fn all_kept(
     preferences: &[u16],
     rows: &[u64],
 ) -> bool {
-    if !words_are(mins, BEFORE as u16) {
+    if !all_are(mins, BEFORE as u16) {
         return false;
     }
-    if !words_are(maxs, BEFORE as u16) {
+    if !all_are(maxs, BEFORE as u16) {
         return false;
     }
     if !is_filled(optional, 0, BEFORE) {
         return false;
     }
-    if !words_are(levels, BEFORE as u16) {
+    if !all_are(levels, BEFORE as u16) {
         return false;
     }
-    if !words_are(preferences, BEFORE as u16) {
+    if !all_are(preferences, BEFORE as u16) {
         return false;
     }
-    rows_are(rows, BEFORE as u64)
+    all_are(rows, BEFORE as u64)
 }
 
 // Whether the pools hold the day whose lists stand from a place on, and zeros past them.
@@ -221,17 +220,8 @@ fn agrees(bytes: &[u8]) -> bool {
     file_agrees(bytes, end, &bytes[4..end])
 }
 
-// Judges every record of the file of cases.
-fn replay(rt: &impl Files<File = File>, record: &mut [u8]) -> Tally {
-    let mut run = Replay::of(rt, b"cases", record);
-    while 0 < run.left {
-        run = run.next(agrees(record), record);
-    }
-    run.tally
-}
-
 fn main(rt: HostRuntime) -> io::Result<()> {
     let mut record = [0u8; 65536];
-    let tally = replay(&rt, &mut record);
+    let tally = replay_all(&rt, b"cases", &mut record, agrees);
     tally.tell(&rt, b"day_file")
 }

@@ -3,7 +3,7 @@ use day_rows::check::Counts;
 use list_all::list_plans::{Listed, list_plans};
 use list_page::page::list_page;
 use list_starts::page_end::Paged;
-use test_cases::{BLANK, fill, is_filled, plus, same};
+use test_cases::{BLANK, is_filled, plus, same};
 
 // What a case expects: its total and nodes, and where its plans stand in the record.
 #[derive(Clone, Copy)]
@@ -13,26 +13,14 @@ pub struct Expected {
     pub plans: usize,
 }
 
-// A count times a size, by sums that wrap where no list reaches.
+// A count times a size; it wraps where no list reaches.
 pub fn times(count: u64, size: usize) -> usize {
-    let mut sum = 0;
-    let mut i = 0;
-    while i < count {
-        sum = plus(sum, size);
-        i += 1;
-    }
-    sum
+    size.wrapping_mul(count as usize)
 }
 
 // How many plans a page from the first number on holds.
 fn on_page(total: u64, first: u64, room: u64) -> u64 {
-    if total <= first {
-        return 0;
-    }
-    if total - first < room {
-        return total - first;
-    }
-    room
+    total.saturating_sub(first).min(room)
 }
 
 // Whether the plans written are the page from the first number on, and the buffer holds them and nothing
@@ -93,11 +81,11 @@ fn plans_met(total: u64, first: u64, room: u64) -> u64 {
     if room == 0 {
         return total;
     }
-    let last = std::num::wrapping_add_u64(first, room);
+    let last = first.wrapping_add(room);
     if total <= last {
         return total;
     }
-    std::num::wrapping_add_u64(last, 1)
+    last.wrapping_add(1)
 }
 
 // Whether the list ends before a plan comes after the page.
@@ -105,7 +93,7 @@ fn ends(total: u64, first: u64, room: u64) -> bool {
     if room == 0 {
         return true;
     }
-    total <= std::num::wrapping_add_u64(first, room)
+    total <= first.wrapping_add(room)
 }
 
 // Whether a walk's answer and the buffer are the page: with the total where the list ends, else with the
@@ -130,8 +118,7 @@ fn is_walked(
             !end && met == most
                 && is_written(written, expected, choices, first, room, bytes, buffer)
         }
-        Paged::Turns { .. } => false,
-        Paged::Refused(_) => false,
+        Paged::Turns { .. } | Paged::Refused(_) => false,
     }
 }
 
@@ -149,7 +136,7 @@ fn listed_page(
     bytes: &[u8],
     lent: &mut [u8],
 ) -> bool {
-    fill(lent, BLANK);
+    lent.fill(BLANK);
     let listed = list_plans(
         counts, mins, maxs, optional, rows, first, room, budget, lent,
     );
@@ -171,7 +158,7 @@ fn walked_page(
     bytes: &[u8],
     lent: &mut [u8],
 ) -> bool {
-    fill(lent, BLANK);
+    lent.fill(BLANK);
     let paged = list_page(
         counts, mins, maxs, optional, rows, first, room, budget, lent,
     );
@@ -240,7 +227,7 @@ pub fn budgets_agree(
 ) -> bool {
     let total = expected.total;
     let nodes = expected.nodes;
-    let more = std::num::wrapping_add_u64(nodes, 1);
+    let more = nodes.wrapping_add(1);
     if !page_agrees(
         counts, mins, maxs, optional, rows, expected, 0, 0, more, bytes, buffer,
     ) {

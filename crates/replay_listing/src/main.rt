@@ -7,12 +7,10 @@ use expected::{Expected, budgets_agree, page_agrees, times};
 use list_all::list_plans::{Listed, list_plans};
 use list_page::page::list_page;
 use list_starts::page_end::Paged;
-use std::fs::{File, Files};
 use std::io;
-use test_cases::replay::Replay;
+use test_cases::replay::replay_all;
 use test_cases::{
-    BLANK, Tally, byte, fill, first_bytes, first_rows, first_words, is_filled, number, read_bytes,
-    read_numbers, read_words, word,
+    BLANK, byte, first, is_filled, number, read_bytes, read_numbers, read_words, word,
 };
 
 mod expected;
@@ -38,8 +36,7 @@ fn pages_agree(
     buffer: &mut [u8],
 ) -> bool {
     let mut first = 0;
-    let mut left = most_pages(expected.nodes);
-    while 0 < left {
+    for _ in 0..most_pages(expected.nodes) {
         if !page_agrees(
             counts,
             mins,
@@ -58,8 +55,7 @@ fn pages_agree(
         if expected.total <= first {
             return true;
         }
-        first = std::num::wrapping_add_u64(first, room);
-        left -= 1;
+        first = first.wrapping_add(room);
     }
     true
 }
@@ -75,7 +71,7 @@ fn lent_turns(
     budget: u64,
     lent: &mut [u8],
 ) -> bool {
-    fill(lent, BLANK);
+    lent.fill(BLANK);
     let listed = list_plans(counts, mins, maxs, optional, rows, 0, room, budget, lent);
     let Listed::Turns = listed else {
         return false;
@@ -97,7 +93,7 @@ fn turns_agree(
     if buffer.len() < size {
         return false;
     }
-    let fewer = std::num::wrapping_sub_u64(expected.nodes, 1);
+    let fewer = expected.nodes.wrapping_sub(1);
     let lent = &mut buffer[..size];
     lent_turns(
         counts,
@@ -111,16 +107,8 @@ fn turns_agree(
     )
 }
 
-// The sizes of the pages that a day is read in, by their number.
-fn room_of(size: usize) -> u64 {
-    match size {
-        0 => 1,
-        1 => 2,
-        2 => 3,
-        3 => 7,
-        _ => 100,
-    }
-}
+// The sizes of the pages that a day is read in.
+const ROOMS: [u64; 5] = [1, 2, 3, 7, 100];
 
 // Whether every page of several sizes is the expected one.
 fn all_pages_agree(
@@ -133,15 +121,12 @@ fn all_pages_agree(
     bytes: &[u8],
     buffer: &mut [u8],
 ) -> bool {
-    let mut size = 0;
-    while size < 5 {
-        let room = room_of(size);
+    for room in &ROOMS {
         if !pages_agree(
-            counts, mins, maxs, optional, rows, expected, room, bytes, buffer,
+            counts, mins, maxs, optional, rows, expected, *room, bytes, buffer,
         ) {
             return false;
         }
-        size += 1;
     }
     true
 }
@@ -173,7 +158,7 @@ fn refused_alike(
     why: u8,
     buffer: &mut [u8],
 ) -> bool {
-    fill(buffer, BLANK);
+    buffer.fill(BLANK);
     let most = 0xffff_ffff_ffff_ffff;
     let listed = list_plans(counts, mins, maxs, optional, rows, 0, room, most, buffer);
     if listing_refuses(listed) != why {
@@ -259,28 +244,24 @@ fn agrees(bytes: &[u8], buffer: &mut [u8]) -> bool {
     };
     day_agrees(
         counts,
-        first_words(&mins, choices),
-        first_words(&maxs, choices),
-        first_bytes(&optional, choices),
-        first_rows(&rows, given),
+        first(&mins, choices),
+        first(&maxs, choices),
+        first(&optional, choices),
+        first(&rows, given),
         expected,
         bytes,
         buffer,
     )
 }
 
-// Judges every record of the file of cases.
-fn replay(rt: &impl Files<File = File>, record: &mut [u8], buffer: &mut [u8]) -> Tally {
-    let mut run = Replay::of(rt, b"cases", record);
-    while 0 < run.left {
-        run = run.next(agrees(record, buffer), record);
-    }
-    run.tally
-}
-
 fn main(rt: HostRuntime) -> io::Result<()> {
     let mut record = [0u8; 12800];
     let mut buffer = [0u8; 12800];
-    let tally = replay(&rt, &mut record, &mut buffer);
+    let tally = replay_all(
+        &rt,
+        b"cases",
+        &mut record,
+        |bytes| agrees(bytes, &mut buffer),
+    );
     tally.tell(&rt, b"listing")
 }

@@ -6,11 +6,10 @@ use day_rows::number::Choice;
 use day_rows::refusal::Refusal;
 use search_map::lookup::{MapCounts, lookup};
 use search_map::own_map::{Mapped, own_map};
-use std::fs::{File, Files};
 use std::io;
-use test_cases::parts::{after, rows, words, words_agree, words_are};
-use test_cases::replay::Replay;
-use test_cases::{Tally, byte, first_rows, first_words, number, plus, word};
+use test_cases::parts::{after, all_are, rows, words, words_agree};
+use test_cases::replay::replay_all;
+use test_cases::{byte, first, number, plus, word};
 
 // What a pool's words hold before a call, so that what the call left alone shows.
 const BLANK_WORD: u16 = 30_583;
@@ -41,13 +40,13 @@ fn is_refusal(bytes: &[u8], at: usize, why: Refusal) -> bool {
 
 // Whether all three pools hold a word and nothing else.
 fn all_hold(starts: &[u16], sizes: &[u16], numbers: &[u16], held: u16) -> bool {
-    if !words_are(starts, held) {
+    if !all_are(starts, held) {
         return false;
     }
-    if !words_are(sizes, held) {
+    if !all_are(sizes, held) {
         return false;
     }
-    words_are(numbers, held)
+    all_are(numbers, held)
 }
 
 // What the pools hold after a refusal: 6 leaves them all zero, the others as they were.
@@ -145,9 +144,9 @@ fn own_agrees_in(
         at,
         counts.choices,
         made,
-        first_words(starts, lengths.starts),
-        first_words(sizes, lengths.sizes),
-        first_words(numbers, lengths.numbers),
+        first(starts, lengths.starts),
+        first(sizes, lengths.sizes),
+        first(numbers, lengths.numbers),
     )
 }
 
@@ -173,7 +172,7 @@ fn own_agrees(bytes: &[u8]) -> bool {
     own_agrees_in(
         bytes,
         counts,
-        first_rows(&given, length),
+        first(&given, length),
         after(41, length, 8),
         lengths,
         &mut starts,
@@ -279,10 +278,10 @@ fn lookup_agrees(bytes: &[u8]) -> bool {
     lookup_agrees_in(
         bytes,
         places.answer,
-        first_words(&starts, lengths.starts),
-        first_words(&sizes, lengths.sizes),
-        first_words(&numbers, lengths.numbers),
-        first_words(&whole, lengths.whole),
+        first(&starts, lengths.starts),
+        first(&sizes, lengths.sizes),
+        first(&numbers, lengths.numbers),
+        first(&whole, lengths.whole),
     )
 }
 
@@ -294,17 +293,8 @@ fn agrees(bytes: &[u8]) -> bool {
     }
 }
 
-// Judges every record of the file of cases.
-fn replay(rt: &impl Files<File = File>, record: &mut [u8]) -> Tally {
-    let mut run = Replay::of(rt, b"cases", record);
-    while 0 < run.left {
-        run = run.next(agrees(record), record);
-    }
-    run.tally
-}
-
 fn main(rt: HostRuntime) -> io::Result<()> {
     let mut record = [0u8; 32768];
-    let tally = replay(&rt, &mut record);
+    let tally = replay_all(&rt, b"cases", &mut record, agrees);
     tally.tell(&rt, b"maps")
 }

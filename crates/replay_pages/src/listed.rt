@@ -1,10 +1,8 @@
 // The pages of a day held against its whole list: what the program does with a day that it has read.
-ghost use Rattle.std.specs.Prelude.{◌≡◌, length};
-
 use day_rows::check::Counts;
 use list_all::list_plans::{Listed, list_plans};
 use std::io;
-use test_cases::{BLANK, fill, is_filled, same};
+use test_cases::{BLANK, is_filled, same};
 
 // How many plans the day has, as the telling in Python counts them; the whole has room for them alone.
 const PLANS: u64 = 7_380;
@@ -22,35 +20,6 @@ struct Whole {
     nodes: u64,
 }
 
-// How many pages of a size were read to the end of the list, each equal to its part of the whole; or that one
-// wasn't.
-#[derive(Clone, Copy)]
-enum Joined {
-    Equal(u64),
-    Differ,
-}
-
-// Room for all plans.
-fn whole_pool() -> [u8; 88_560]
-    ensures { 88560 ≡ length result }
-{
-    [BLANK; 88_560]
-}
-
-// Room for a page of 1,000 plans.
-fn page_of_1000() -> [u8; 12_000]
-    ensures { 12000 ≡ length result }
-{
-    [BLANK; 12_000]
-}
-
-// Room for a page of 997 plans, so that pages also end elsewhere.
-fn page_of_997() -> [u8; 11_964]
-    ensures { 11964 ≡ length result }
-{
-    [BLANK; 11_964]
-}
-
 // How many bytes this many plans of the day take; no more than all of them are asked for.
 fn bytes_of(plans: u64) -> usize {
     if PLANS < plans {
@@ -61,13 +30,7 @@ fn bytes_of(plans: u64) -> usize {
 
 // How many plans a page from the first number on holds.
 fn on_page(total: u64, first: u64, room: u64) -> u64 {
-    if total <= first {
-        return 0;
-    }
-    if total - first < room {
-        return total - first;
-    }
-    room
+    total.saturating_sub(first).min(room)
 }
 
 // Whether a page tells how many plans it wrote, the whole's total and its nodes, and holds its part of the
@@ -110,14 +73,15 @@ fn page_agrees(
     plans: &[u8],
     page: &mut [u8],
 ) -> bool {
-    fill(page, BLANK);
+    page.fill(BLANK);
     let listed = list_plans(
         counts, mins, maxs, optional, rows, first, room, BUDGET, page,
     );
     is_part(listed, whole, first, room, plans, page)
 }
 
-// Reads the pages of a size, one after another up to the end of the list.
+// Reads the pages of a size, one after another up to the end of the list: how many there are, each equal to
+// its part of the whole; none where one wasn't.
 fn join_pages(
     counts: Counts,
     mins: &[u16],
@@ -128,30 +92,28 @@ fn join_pages(
     room: u64,
     plans: &[u8],
     page: &mut [u8],
-) -> Joined {
+) -> Option<u64> {
     let mut first = 0;
-    let mut count = 0;
-    while count < 100 {
+    for count in 0..100 {
         if whole.total <= first {
-            return Joined::Equal(count);
+            return Some(count);
         }
         if !page_agrees(
             counts, mins, maxs, optional, rows, whole, first, room, plans, page,
         ) {
-            return Joined::Differ;
+            return None;
         }
-        first = std::num::wrapping_add_u64(first, room);
-        count += 1;
+        first = first.wrapping_add(room);
     }
-    Joined::Differ
+    None
 }
 
 // Prints one line for the pages of a size.
-fn tell_pages(rt: &impl Print, room: u64, joined: Joined) -> io::Result<()> {
+fn tell_pages(rt: &impl Print, room: u64, joined: Option<u64>) -> io::Result<()> {
     print!(rt; "pages of {room}: ")?;
     match joined {
-        Joined::Equal(count) => tell_equal(rt, count),
-        Joined::Differ => tell_differ(rt),
+        Some(count) => tell_equal(rt, count),
+        None => tell_differ(rt),
     }
 }
 
@@ -172,7 +134,7 @@ fn tell_whole(rt: &impl Print, whole: Whole) -> io::Result<()> {
     println!(rt; "plans {total}, nodes {nodes}")
 }
 
-// Holds the pages of two sizes against the whole.
+// Holds the pages of two sizes against the whole, the second so that pages also end elsewhere.
 fn compare_pages(
     rt: &impl Print,
     counts: Counts,
@@ -184,12 +146,12 @@ fn compare_pages(
     plans: &[u8],
 ) -> io::Result<()> {
     tell_whole(rt, whole)?;
-    let mut page = page_of_1000();
+    let mut page = [BLANK; 1000 * CHOICES];
     let joined = join_pages(
         counts, mins, maxs, optional, rows, whole, 1000, plans, &mut page,
     );
     tell_pages(rt, 1000, joined)?;
-    let mut page = page_of_997();
+    let mut page = [BLANK; 997 * CHOICES];
     let joined = join_pages(
         counts, mins, maxs, optional, rows, whole, 997, plans, &mut page,
     );
@@ -205,7 +167,7 @@ pub fn list_day(
     optional: &[u8],
     rows: &[u64],
 ) -> io::Result<()> {
-    let mut plans = whole_pool();
+    let mut plans = [BLANK; 88_560];
     let listed = list_plans(
         counts, mins, maxs, optional, rows, 0, PLANS, BUDGET, &mut plans,
     );

@@ -3,10 +3,9 @@
 
 use day_rows::check::Counts;
 use plan_check::plan_check::{PlanChecked, check_plan};
-use std::fs::{File, Files};
 use std::io;
-use test_cases::replay::Replay;
-use test_cases::{Tally, byte, plus, word};
+use test_cases::replay::replay_all;
+use test_cases::{byte, plus, word};
 
 // Whether the plan check answers as the Rust did: 1 for feasible.
 fn is_answer(answer: PlanChecked, expected: u8) -> bool {
@@ -60,17 +59,8 @@ fn agrees(bytes: &[u8]) -> bool {
     agrees_at(bytes, 5 + 8 * n, counts, &rows[..n])
 }
 
-// Judges every record of the file of cases.
-fn replay(rt: &impl Files<File = File>, record: &mut [u8]) -> Tally {
-    let mut run = Replay::of(rt, b"cases", record);
-    while 0 < run.left {
-        run = run.next(agrees(record), record);
-    }
-    run.tally
-}
-
 fn main(rt: HostRuntime) -> io::Result<()> {
     let mut record = [0u8; 16384];
-    let tally = replay(&rt, &mut record);
+    let tally = replay_all(&rt, b"cases", &mut record, agrees);
     tally.tell(&rt, b"plan_check")
 }

@@ -1,14 +1,11 @@
 // Replays whole texts of the program `plans`, whose answers were told from document 01 alone.
 #![tactic(auto)]
 
-ghost use Rattle.std.specs.Prelude.{◌≡◌, length};
-
 use day_rows::refusal::Refusal;
-use std::fs::{File, Files};
 use std::io;
-use test_cases::replay::Replay;
-use test_cases::texts::{length_at, record_pool, text_agrees};
-use test_cases::{BLANK, Tally, fill, is_filled, number, word};
+use test_cases::replay::replay_all;
+use test_cases::texts::{length_at, text_agrees};
+use test_cases::{BLANK, is_filled, number, word};
 use text_day::made::Made;
 use text_plans::text::{LONGEST_TEXT, plans_text};
 
@@ -17,13 +14,6 @@ const NO_TEXT: usize = 0xffff_ffff;
 
 // Where a record's file begins.
 const FILE_AT: usize = 28;
-
-// Room for the longest text of `plans`.
-fn text_pool() -> [u8; LONGEST_TEXT]
-    ensures { 288818 ≡ length result }
-{
-    [BLANK; LONGEST_TEXT]
-}
 
 // Whether a refusal is the one told, no text expected: the room's refusal, and the pool as it was.
 fn refusal_agrees(bytes: &[u8], at: usize, why: Refusal, text: &[u8]) -> bool {
@@ -52,7 +42,7 @@ fn agrees(bytes: &[u8], text: &mut [u8]) -> bool {
     if bytes.len() < end {
         return false;
     }
-    fill(text, BLANK);
+    text.fill(BLANK);
     let told = plans_text(
         &bytes[FILE_AT..end],
         number(bytes, 0),
@@ -63,18 +53,9 @@ fn agrees(bytes: &[u8], text: &mut [u8]) -> bool {
     told_agrees(bytes, end, told, text)
 }
 
-// Judges every record of the file of cases.
-fn replay(rt: &impl Files<File = File>, record: &mut [u8], text: &mut [u8]) -> Tally {
-    let mut run = Replay::of(rt, b"cases", record);
-    while 0 < run.left {
-        run = run.next(agrees(record, text), record);
-    }
-    run.tally
-}
-
 fn main(rt: HostRuntime) -> io::Result<()> {
-    let mut record = record_pool();
-    let mut text = text_pool();
-    let tally = replay(&rt, &mut record, &mut text);
+    let mut record = [0u8; 65_536];
+    let mut text = [BLANK; LONGEST_TEXT];
+    let tally = replay_all(&rt, b"cases", &mut record, |bytes| agrees(bytes, &mut text));
     tally.tell(&rt, b"plans")
 }

@@ -5,11 +5,10 @@
 use day_rows::check::Counts;
 use day_rows::refusal::Refusal;
 use reduce::{Reduced, Reduction};
-use std::fs::{File, Files};
 use std::io;
-use test_cases::parts::{rows_agree, rows_are};
-use test_cases::replay::Replay;
-use test_cases::{Tally, byte, plus, word};
+use test_cases::parts::{all_are, rows_agree};
+use test_cases::replay::replay_all;
+use test_cases::{byte, plus, word};
 
 // Whether a reduction is the Rust's: status 0, the flag, the count and the rows; the pool zero past them.
 fn reduction_agrees(bytes: &[u8], at: usize, reduction: Reduction, pool: &[u64]) -> bool {
@@ -33,7 +32,7 @@ fn refusal_agrees(bytes: &[u8], at: usize, refusal: Refusal, pool: &[u64]) -> bo
     if refusal.number() != 6 {
         return false;
     }
-    rows_are(pool, 0)
+    all_are(pool, 0)
 }
 
 // Whether a case with its rows read is answered as the Rust did: the answer stands from a place on.
@@ -63,17 +62,8 @@ fn agrees(bytes: &[u8]) -> bool {
     agrees_at(bytes, 5 + 8 * n, counts, &rows[..n])
 }
 
-// Judges every record of the file of cases.
-fn replay(rt: &impl Files<File = File>, record: &mut [u8]) -> Tally {
-    let mut run = Replay::of(rt, b"cases", record);
-    while 0 < run.left {
-        run = run.next(agrees(record), record);
-    }
-    run.tally
-}
-
 fn main(rt: HostRuntime) -> io::Result<()> {
     let mut record = [0u8; 16384];
-    let tally = replay(&rt, &mut record);
+    let tally = replay_all(&rt, b"cases", &mut record, agrees);
     tally.tell(&rt, b"reduction")
 }

@@ -3,11 +3,10 @@
 
 use day_rows::refusal::Refusal;
 use roster_check::roster_check::{RosterChecked, RosterCounts, check_roster};
-use std::fs::{File, Files};
 use std::io;
 use test_cases::parts::{after, few_bytes, words};
-use test_cases::replay::Replay;
-use test_cases::{Tally, byte, first_bytes, first_rows, first_words, plus, word};
+use test_cases::replay::replay_all;
+use test_cases::{byte, first, plus, word};
 
 // The lengths of the slices that a case lends.
 #[derive(Clone, Copy)]
@@ -111,14 +110,14 @@ fn agrees_at(
     few_bytes(bytes, roster_at, lengths.roster, &mut roster);
     let answer = check_roster(
         counts,
-        first_words(&mins, lengths.mins),
-        first_words(&maxs, lengths.maxs),
-        first_words(&levels, lengths.levels),
-        first_words(&preferences, lengths.preferences),
+        first(&mins, lengths.mins),
+        first(&maxs, lengths.maxs),
+        first(&levels, lengths.levels),
+        first(&preferences, lengths.preferences),
         rows,
         assignment_rows,
-        first_bytes(&plan, lengths.plan),
-        first_bytes(&roster, lengths.roster),
+        first(&plan, lengths.plan),
+        first(&roster, lengths.roster),
     );
     let expected = Expected {
         outcome: outcome_of(byte(bytes, end)),
@@ -143,8 +142,8 @@ fn agrees(bytes: &[u8], places: Places, counts: RosterCounts, lengths: Lengths) 
         places.rest,
         counts,
         lengths,
-        first_rows(&rows, lengths.rows),
-        first_rows(&assignment_rows, lengths.assignment_rows),
+        first(&rows, lengths.rows),
+        first(&assignment_rows, lengths.assignment_rows),
     )
 }
 
@@ -214,28 +213,10 @@ fn agrees_told(bytes: &[u8]) -> bool {
     agrees(bytes, places, counts, lengths)
 }
 
-// Judges every record of the file of cases.
-fn replay(rt: &impl Files<File = File>, record: &mut [u8]) -> Tally {
-    let mut run = Replay::of(rt, b"cases", record);
-    while 0 < run.left {
-        run = run.next(agrees_asked(record), record);
-    }
-    run.tally
-}
-
-// Judges every record of the file told from 01.
-fn replay_told(rt: &impl Files<File = File>, record: &mut [u8]) -> Tally {
-    let mut run = Replay::of(rt, b"refusals", record);
-    while 0 < run.left {
-        run = run.next(agrees_told(record), record);
-    }
-    run.tally
-}
-
 fn main(rt: HostRuntime) -> io::Result<()> {
     let mut record = [0u8; 65536];
-    let tally = replay(&rt, &mut record);
+    let tally = replay_all(&rt, b"cases", &mut record, agrees_asked);
     tally.tell(&rt, b"roster")?;
-    let told = replay_told(&rt, &mut record);
+    let told = replay_all(&rt, b"refusals", &mut record, agrees_told);
     told.tell(&rt, b"refusals")
 }

@@ -3,7 +3,7 @@
 use search_map::own_map::{Mapped, own_map};
 use search_meaning::counts::{SearchCounts, row_counts};
 use test_cases::parts::{after, count_up, rows, words};
-use test_cases::{byte, first_rows, first_words, plus, word};
+use test_cases::{byte, first, plus, word};
 use test_search_cases::answer::is_refusal;
 use test_search_cases::call;
 use test_search_cases::records::{
@@ -33,7 +33,7 @@ fn agrees_at(
         starts,
         sizes,
         numbers,
-        first_words(&whole, counts.rows),
+        first(&whole, counts.rows),
     )
 }
 
@@ -99,5 +99,5 @@ pub fn agrees(bytes: &[u8]) -> bool {
     let counts = counts_of(bytes);
     let mut pool = [0u64; 1025];
     rows(bytes, 6, counts.rows, &mut pool);
-    map_agrees(bytes, counts, first_rows(&pool, counts.rows))
+    map_agrees(bytes, counts, first(&pool, counts.rows))
 }

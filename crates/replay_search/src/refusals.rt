@@ -2,7 +2,7 @@
 use search_meaning::counts::SearchCounts;
 use search_meaning::settings::Settings;
 use test_cases::parts::{after, rows, words};
-use test_cases::{byte, first_rows, first_words, number, word};
+use test_cases::{byte, first, number, word};
 use test_search_cases::call;
 use test_search_cases::records::{Lengths, Places, analysis_of};
 
@@ -138,9 +138,9 @@ fn agrees_at(
         lengths,
         places_of(lengths, row_lengths, at.whole),
         given,
-        first_words(&starts, row_lengths.starts),
-        first_words(&sizes, row_lengths.sizes),
-        first_words(&numbers, row_lengths.numbers),
+        first(&starts, row_lengths.starts),
+        first(&sizes, row_lengths.sizes),
+        first(&numbers, row_lengths.numbers),
         whole,
     )
 }
@@ -159,7 +159,7 @@ pub fn agrees(bytes: &[u8]) -> bool {
         lengths,
         row_lengths,
         at,
-        first_rows(&given, row_lengths.rows),
-        first_words(&whole, row_lengths.whole),
+        first(&given, row_lengths.rows),
+        first(&whole, row_lengths.whole),
     )
 }

@@ -3,10 +3,9 @@
 #![tactic(auto)]
 
 use reduce_union_find::{Found, Grouped, UnionFind};
-use std::fs::{File, Files};
 use std::io;
-use test_cases::replay::Replay;
-use test_cases::{Tally, byte, plus, same, word};
+use test_cases::replay::replay_all;
+use test_cases::{byte, plus, same, word};
 
 // A union-find made by a run's joins, and whether each join answered as expected so far.
 #[derive(Clone, Copy)]
@@ -17,10 +16,7 @@ struct Run {
 
 // Whether an answer of `find` or `join` is this root.
 fn is_root(found: Found, root: u8) -> bool {
-    match found {
-        Found::Root(r) => r == root as usize,
-        Found::Refused(_) => false,
-    }
+    matches!(found, Found::Root(r) if r == root as usize)
 }
 
 // Makes one join of a run, held to the root that the Rust returned.
@@ -46,25 +42,21 @@ fn join_all(bytes: &[u8], choices: usize, joins: usize, roots: usize) -> Run {
         agrees: true,
     };
     let mut at = 3;
-    let mut i = 0;
-    while i < joins {
+    for i in 0..joins {
         let left = byte(bytes, at);
         let right = byte(bytes, plus(at, 1));
         run = join_one(run, choices, left, right, byte(bytes, plus(roots, i)));
         at = plus(at, 2);
-        i += 1;
     }
     run
 }
 
 // Whether the root of each element is the one that stands from a place on.
 fn roots_agree(bytes: &[u8], at: usize, choices: usize, state: UnionFind) -> bool {
-    let mut i = 0;
-    while i < choices {
+    for i in 0..choices {
         if !is_root(state.find(choices, i), byte(bytes, plus(at, i))) {
             return false;
         }
-        i += 1;
     }
     true
 }
@@ -82,15 +74,13 @@ fn group_agrees(bytes: &[u8], at: usize, members: &[u8], start: usize, end: usiz
 fn members_agree(bytes: &[u8], from: usize, count: usize, members: &[u8], ends: &[u8]) -> bool {
     let mut at = from;
     let mut start = 0;
-    let mut g = 0;
-    while g < count {
+    for g in 0..count {
         let end = byte(ends, g) as usize;
         if !group_agrees(bytes, at, members, start, end) {
             return false;
         }
         at = plus(plus(at, 1), byte(bytes, at) as usize);
         start = end;
-        g += 1;
     }
     true
 }
@@ -154,17 +144,8 @@ fn agrees(bytes: &[u8]) -> bool {
     entries_agree(bytes, entries, choices, state)
 }
 
-// Judges every record of the file of cases.
-fn replay(rt: &impl Files<File = File>, record: &mut [u8]) -> Tally {
-    let mut run = Replay::of(rt, b"cases", record);
-    while 0 < run.left {
-        run = run.next(agrees(record), record);
-    }
-    run.tally
-}
-
 fn main(rt: HostRuntime) -> io::Result<()> {
     let mut record = [0u8; 4096];
-    let tally = replay(&rt, &mut record);
+    let tally = replay_all(&rt, b"cases", &mut record, agrees);
     tally.tell(&rt, b"union_find")
 }

@@ -1,21 +1,6 @@
--- A list filled with one number from the front on, and the test of it.
-use Rattle.std.proofs.Common.{◌≡◌, ℕ, suc, ◌+◌, ◌<◌, ◌≤◌, Bool, true, false, ◌&&◌, eqb, List, [], ◌∷◌, ◌++◌, length, get_or, take, drop, set, replicate, sym, ap, ◌∙◌, add-one, arith, drop_of_length-le, take_all, drop-cons, take-suc-set, eq-eqb, ne_eqb}
-use lib.ListN.{replicate-append-replicate}
+-- The test that a list holds one number and no other, from a place on.
+use Rattle.std.proofs.Common.{◌≡◌, ℕ, suc, ◌+◌, ◌<◌, ◌≤◌, Bool, true, false, ◌&&◌, eqb, List, length, get_or, drop, sym, ap, ◌∙◌, add-one, drop_of_length-le, drop-cons, eq-eqb, ne_eqb}
 use Rattle.test_cases.specs.steps.Buffers.{filled}
-
--- one entry more
-pub fill_more : (l : List ℕ) (i byte : ℕ) → i < length l → take i l ≡ replicate i byte → take (i + 1) (set l i byte) ≡ replicate (i + 1) byte
-fill_more l i byte h e =
-    ap (λ (k : ℕ). take k (set l i byte)) (add-one i)
-    ∙ take-suc-set l i byte h
-    ∙ ap (λ (k : List ℕ). k ++ (byte ∷ [])) e
-    ∙ replicate-append-replicate i 1 byte
-
--- all of them
-pub fill_all : (l : List ℕ) (i n byte : ℕ) → length l ≡ n → n ≤ i → i ≤ n → take i l ≡ replicate i byte → l ≡ replicate n byte
-fill_all l i n byte h a b e =
-    let k : i ≡ n = omega arith in
-    sym (take_all n l (omega arith)) ∙ (rw k at e)
 
 -- the test at a place, and the test of the rest
 filled_at : (l : List ℕ) (i byte : ℕ) (b : Bool) → i < length l → eqb (get_or l i 0) byte ≡ b → filled byte (drop i l) ≡ b && filled byte (drop (suc i) l)

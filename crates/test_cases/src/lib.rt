@@ -3,7 +3,7 @@
 // Reading past a record's end gives 0, so that a damaged file shows as a difference.
 #![tactic(auto)]
 
-ghost use Rattle.std.specs.Prelude.{◌≡◌, ◌+◌, ◌%◌, ◌^◌, ◌≤◌, length, take, drop, replicate, slice_index};
+ghost use Rattle.std.specs.Prelude.{◌≡◌, ◌+◌, ◌%◌, ◌^◌, ◌≤◌, length, take, drop, slice_index};
 ghost use Rattle.test_cases.specs.steps.Alike.{alike};
 ghost use Rattle.test_cases.specs.steps.Buffers.{filled};
 ghost use Rattle.test_cases.specs.steps.Numbers.{word_at, number_at};
@@ -53,7 +53,7 @@ impl Tally {
     pub fn with(self, agrees: bool) -> Tally
         ensures { result ≡ counted self agrees }
     {
-        let cases = std::num::wrapping_add_u64(self.cases, 1);
+        let cases = self.cases.wrapping_add(1);
         if agrees {
             return Tally {
                 cases,
@@ -70,7 +70,7 @@ impl Tally {
         }
         Tally {
             cases,
-            differ: std::num::wrapping_add_u64(self.differ, 1),
+            differ: self.differ.wrapping_add(1),
             first: self.first,
         }
     }
@@ -78,7 +78,7 @@ impl Tally {
     // Prints the tally's line: the name, how many agreed, how many differ, and which case was the first to
     // differ.
     pub fn tell(self, rt: &impl Print, name: &[u8]) -> io::Result<()> {
-        let agreed = std::num::wrapping_sub_u64(self.cases, self.differ);
+        let agreed = self.cases.wrapping_sub(self.differ);
         let differ = self.differ;
         let first = self.first;
         rt.write_all(name)?;
@@ -135,6 +135,7 @@ pub fn read_full(file: &mut File, bytes: &mut [u8]) -> usize
     ensures { result ≤ length bytes.new }
 {
     let mut done = 0;
+    // No count: each read goes on by as many bytes as it got.
     while done < bytes.len() {
         let got = file.read(&mut bytes[done..]);
         let Ok(n) = got else {
@@ -179,8 +180,7 @@ fn ended(next: Next, tally: Tally) -> Tally
     ensures { result ≡ closed next tally }
 {
     match next {
-        Next::Record(_) => tally,
-        Next::End => tally,
+        Next::Record(_) | Next::End => tally,
         Next::Broken => tally.with(false),
     }
 }
@@ -190,12 +190,10 @@ fn ended(next: Next, tally: Tally) -> Tally
 pub fn same(one: &[u8], from: usize, other: &[u8], at: usize, n: usize) -> bool
     ensures { result ≡ alike one.now from other.now at n }
 {
-    let mut i = 0;
-    while i < n {
+    for i in 0..n {
         if byte(one, plus(from, i)) != byte(other, plus(at, i)) {
             return false;
         }
-        i += 1;
     }
     true
 }
@@ -204,92 +202,60 @@ pub fn same(one: &[u8], from: usize, other: &[u8], at: usize, n: usize) -> bool
 pub fn plus(a: usize, b: usize) -> usize
     ensures { result ≡ (a + b) % 2 ^ 64 }
 {
-    std::num::wrapping_add_usize(a, b)
+    a.wrapping_add(b)
+}
+
+// Fills a list with the entries of so many bytes each from a place on, each read as this function reads it.
+pub fn read_entries<T: Copy, F: Fn(&[u8], usize) -> T>(
+    bytes: &[u8],
+    from: usize,
+    size: usize,
+    entry: F,
+    entries: &mut [T],
+)
+    requires { F.IsAlwaysCallable entry }
+{
+    let mut at = from;
+    for x in entries.iter_mut() {
+        *x = entry(bytes, at);
+        at = plus(at, size);
+    }
 }
 
 // Fills a list with the words from a place on.
 pub fn read_words(bytes: &[u8], from: usize, words: &mut [u16]) {
-    let mut at = from;
-    let mut i = 0;
-    while i < words.len() {
-        words[i] = word(bytes, at);
-        at = plus(at, 2);
-        i += 1;
-    }
+    read_entries(bytes, from, 2, word, words);
 }
 
 // Fills a list with the bytes from a place on.
 pub fn read_bytes(bytes: &[u8], from: usize, out: &mut [u8]) {
-    let mut i = 0;
-    while i < out.len() {
-        out[i] = byte(bytes, plus(from, i));
-        i += 1;
-    }
+    read_entries(bytes, from, 1, byte, out);
 }
 
 // Fills a list with the numbers of eight bytes from a place on: rows, as a pool holds them.
 pub fn read_numbers(bytes: &[u8], from: usize, numbers: &mut [u64]) {
-    let mut at = from;
-    let mut i = 0;
-    while i < numbers.len() {
-        numbers[i] = number(bytes, at);
-        at = plus(at, 8);
-        i += 1;
-    }
+    read_entries(bytes, from, 8, number, numbers);
 }
 
-// The first n words of a list, or all of them: a pool's part that a call is lent, with no test at each
+// The first n entries of a list, or all of them: a pool's part that a call is lent, with no test at each
 // caller.
-pub fn first_words(words: &[u16], n: usize) -> &[u16]
-    ensures { result.now ≡ take n words.now }
+pub fn first<T>(list: &[T], n: usize) -> &[T]
+    ensures { result.now ≡ take n list.now }
 {
-    if words.len() < n {
-        return words;
+    if list.len() < n {
+        return list;
     }
-    &words[..n]
-}
-
-// The first n bytes of a list, or all of them.
-pub fn first_bytes(bytes: &[u8], n: usize) -> &[u8]
-    ensures { result.now ≡ take n bytes.now }
-{
-    if bytes.len() < n {
-        return bytes;
-    }
-    &bytes[..n]
-}
-
-// The first n rows of a list, or all of them.
-pub fn first_rows(rows: &[u64], n: usize) -> &[u64]
-    ensures { result.now ≡ take n rows.now }
-{
-    if rows.len() < n {
-        return rows;
-    }
-    &rows[..n]
-}
-
-// Makes every byte of a pool this one, so that nothing of an earlier case can stand for this one's answer.
-pub fn fill(bytes: &mut [u8], byte: u8)
-    ensures { bytes.new ≡ replicate (length bytes.old) byte }
-{
-    let mut i = 0;
-    while i < bytes.len() {
-        bytes[i] = byte;
-        i += 1;
-    }
+    &list[..n]
 }
 
 // Whether every byte of a pool from a place on is this one: what a call has to leave, or to clear.
 pub fn is_filled(bytes: &[u8], from: usize, byte: u8) -> bool
     ensures { result ≡ filled byte (drop from bytes.now) }
 {
-    let mut i = from;
-    while i < bytes.len() {
+    for i in from..bytes.len() {
         if bytes[i] != byte {
             return false;
         }
-        i += 1;
     }
     true
 }

@@ -2,26 +2,16 @@
 // compared, and the place after them.
 ghost use Rattle.std.specs.Prelude.{◌≡◌, take, drop};
 
-use super::{number, plus, word};
+use super::{first, number, plus, read_entries, word};
 
-// The n bytes of a list from a place on, or what it has of them.
-pub fn bytes_from(bytes: &[u8], at: usize, n: usize) -> &[u8]
-    ensures { result.now ≡ take n (drop at bytes.now) }
+// The n entries of a list from a place on, or what it has of them.
+pub fn part<T>(list: &[T], at: usize, n: usize) -> &[T]
+    ensures { result.now ≡ take n (drop at list.now) }
 {
-    if bytes.len() < at {
-        return super::first_bytes(bytes, 0);
+    if list.len() < at {
+        return first(list, 0);
     }
-    super::first_bytes(&bytes[at..], n)
-}
-
-// The n words of a list from a place on, or what it has of them.
-pub fn words_from(words: &[u16], at: usize, n: usize) -> &[u16]
-    ensures { result.now ≡ take n (drop at words.now) }
-{
-    if words.len() < at {
-        return super::first_words(words, 0);
-    }
-    super::first_words(&words[at..], n)
+    first(&list[at..], n)
 }
 
 // The first n words of a pool read from a place on.
@@ -52,41 +42,20 @@ pub fn few_bytes(bytes: &[u8], at: usize, n: usize, pool: &mut [u8]) {
     }
 }
 
+// A draw, of four bytes, from a place on.
+fn draw(bytes: &[u8], at: usize) -> u32 {
+    (word(bytes, at) as u32) * 65536 + (word(bytes, plus(at, 2)) as u32)
+}
+
 // Fills a pool with the draws from a place on.
 pub fn draws(bytes: &[u8], from: usize, pool: &mut [u32]) {
-    let mut at = from;
-    let mut i = 0;
-    while i < pool.len() {
-        pool[i] = (word(bytes, at) as u32) * 65536 + (word(bytes, plus(at, 2)) as u32);
-        at = plus(at, 4);
-        i += 1;
-    }
+    read_entries(bytes, from, 4, draw, pool);
 }
 
-// The first n draws of a pool, or all of them.
-pub fn first_draws(draws: &[u32], n: usize) -> &[u32]
-    ensures { result.now ≡ take n draws.now }
-{
-    if draws.len() < n {
-        return draws;
-    }
-    &draws[..n]
-}
-
-// A number as a word, 0 for one that is no word.
-fn as_word(n: usize) -> u16 {
-    if 65_535 < n {
-        return 0;
-    }
-    n as u16
-}
-
-// Fills a list with 0, 1, 2 ..
+// Fills a list with 0, 1, 2 .., and with 0 where that is no word.
 pub fn count_up(whole: &mut [u16]) {
-    let mut i = 0;
-    while i < whole.len() {
-        whole[i] = as_word(i);
-        i += 1;
+    for (i, x) in whole.iter_mut().enumerate() {
+        *x = u16::try_from(i).unwrap_or(0);
     }
 }
 
@@ -101,66 +70,41 @@ pub fn after(at: usize, n: usize, wide: usize) -> usize {
     plus(at, n * wide)
 }
 
-// Whether every word of a pool is this one.
-pub fn words_are(pool: &[u16], held: u16) -> bool {
-    let mut i = 0;
-    while i < pool.len() {
-        if pool[i] != held {
+// Whether every entry of a pool is this one.
+pub fn all_are<T: Copy + PartialEq>(pool: &[T], held: T) -> bool {
+    pool.iter().all(|x| *x == held)
+}
+
+// Whether the first n entries of a pool are those from a place on, each so many bytes after the one before it
+// and read as this function reads it, and all after them are another.
+pub fn entries_agree<T: Copy + PartialEq, F: Fn(&[u8], usize) -> T>(
+    bytes: &[u8],
+    from: usize,
+    apart: usize,
+    entry: F,
+    n: usize,
+    pool: &[T],
+    past: T,
+) -> bool
+    requires { F.IsAlwaysCallable entry }
+{
+    let mut at = from;
+    for (i, x) in pool.iter().enumerate() {
+        let expected = if i < n { entry(bytes, at) } else { past };
+        if *x != expected {
             return false;
         }
-        i += 1;
+        at = plus(at, apart);
     }
     true
 }
 
 // Whether the first n words of a pool are those from a place on, and all after them are another.
 pub fn words_agree(bytes: &[u8], from: usize, n: usize, pool: &[u16], past: u16) -> bool {
-    let mut at = from;
-    let mut i = 0;
-    while i < pool.len() {
-        if i < n {
-            if pool[i] != word(bytes, at) {
-                return false;
-            }
-        } else if pool[i] != past {
-            return false;
-        }
-        at = plus(at, 2);
-        i += 1;
-    }
-    true
-}
-
-// Whether every row of a pool is this number.
-pub fn rows_are(pool: &[u64], held: u64) -> bool {
-    let mut i = 0;
-    while i < pool.len() {
-        if pool[i] != held {
-            return false;
-        }
-        i += 1;
-    }
-    true
-}
-
-// Row i of the n that a record has, its bytes from a place on; 0 past them.
-fn row_below(bytes: &[u8], at: usize, i: usize, n: usize) -> u64 {
-    if n <= i {
-        return 0;
-    }
-    number(bytes, at)
+    entries_agree(bytes, from, 2, word, n, pool, past)
 }
 
 // Whether the first n rows of a pool are those from a place on, and all after them are 0.
 pub fn rows_agree(bytes: &[u8], from: usize, n: usize, pool: &[u64]) -> bool {
-    let mut at = from;
-    let mut i = 0;
-    while i < pool.len() {
-        if pool[i] != row_below(bytes, at, i, n) {
-            return false;
-        }
-        at = plus(at, 8);
-        i += 1;
-    }
-    true
+    entries_agree(bytes, from, 8, number, n, pool, 0)
 }

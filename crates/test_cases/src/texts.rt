@@ -1,14 +1,5 @@
 // Cases whose answer is a whole text: the records of the two programs' replays.
-ghost use Rattle.std.specs.Prelude.{◌≡◌, length};
-
 use super::{is_filled, plus, same, word};
-
-// Room for the longest record.
-pub fn record_pool() -> [u8; 65_536]
-    ensures { 65536 ≡ length result }
-{
-    [0; 65_536]
-}
 
 // The four bytes from a place on, high byte first.
 pub fn length_at(bytes: &[u8], at: usize) -> usize {

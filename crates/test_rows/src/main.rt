@@ -137,15 +137,9 @@ fn column_text(rt: &impl Print, column: usize) -> io::Result<()> {
     }
 }
 
-// The i-th value that a column is set to.
-fn value_of(column: usize, i: usize) -> u16 {
-    if 13 <= i {
-        return 0;
-    }
-    if column == 2 {
-        return EXTRAS[i];
-    }
-    NUMBERS[i]
+// The values that a column is set to.
+fn values_of(column: usize) -> [u16; 13] {
+    if column == 2 { EXTRAS } else { NUMBERS }
 }
 
 // Prints the value that a column is set to.
@@ -179,10 +173,10 @@ fn line(rt: &impl Print, takes: usize, kind: u16, column: usize) -> io::Result<(
     text(rt, b" kind ")?;
     number(rt, kind as u64)?;
     column_text(rt, column)?;
-    for i in 0..13usize {
-        let value = value_of(column, i);
-        value_text(rt, column, value)?;
-        answer_at(rt, takes, kind, column, value)?;
+    let values = values_of(column);
+    for value in &values {
+        value_text(rt, column, *value)?;
+        answer_at(rt, takes, kind, column, *value)?;
     }
     new_line(rt)
 }

@@ -8,7 +8,8 @@ use search_meaning::answer::Searched;
 use search_meaning::counts::SearchCounts;
 use search_meaning::settings::Settings;
 use test_cases::BLANK;
-use test_cases::parts::{bytes_from, draws, first_draws, words, words_from, words_to};
+use test_cases::parts::{draws, part, words, words_to};
+use test_cases::first;
 
 // Where the maximums stand in the pool of columns, behind the minimums.
 const MAXS_AT: usize = 66;
@@ -66,11 +67,11 @@ fn called<'a>(
     search(
         counts,
         settings,
-        words_from(columns, 0, lengths.mins),
-        words_from(columns, MAXS_AT, lengths.maxs),
+        part(columns, 0, lengths.mins),
+        part(columns, MAXS_AT, lengths.maxs),
         optional,
-        words_from(columns, LEVELS_AT, lengths.levels),
-        words_from(columns, PREFERENCES_AT, lengths.preferences),
+        part(columns, LEVELS_AT, lengths.levels),
+        part(columns, PREFERENCES_AT, lengths.preferences),
         rows,
         starts,
         sizes,
@@ -112,9 +113,9 @@ fn agrees_in<'a>(
         sizes,
         numbers,
         whole,
-        bytes_from(bytes, places.optional, lengths.optional),
-        bytes_from(bytes, places.orders, lengths.orders),
-        first_draws(&drawn, lengths.draws),
+        part(bytes, places.optional, lengths.optional),
+        part(bytes, places.orders, lengths.orders),
+        first(&drawn, lengths.draws),
         &mut plan[..planned],
     );
     is_answer(bytes, places.answer, answer, planned, plan)

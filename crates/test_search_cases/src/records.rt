@@ -149,26 +149,17 @@ pub fn read_entries(
     sizes: &mut [u16],
 ) -> usize {
     let mut at = from;
-    let mut choice = 0;
-    while choice < choices {
+    for choice in 0..choices {
         put(starts, choice, start_of(bytes, at));
         put(sizes, choice, word(bytes, plus(at, 3)));
         at = plus(at, 5);
-        choice += 1;
     }
     at
 }
 
 // The counts with the number of the map's numbers.
 pub fn with_numbers(counts: SearchCounts, numbers: usize) -> SearchCounts {
-    SearchCounts {
-        choices: counts.choices,
-        slots: counts.slots,
-        choosers: counts.choosers,
-        levels: counts.levels,
-        rows: counts.rows,
-        numbers,
-    }
+    SearchCounts { numbers, ..counts }
 }
 
 // The counts at a record's front; the number of the map's numbers comes later.

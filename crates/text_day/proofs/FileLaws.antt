@@ -7,7 +7,7 @@ use native.Mathlib.Nat.{mul-le-mul_right}
 use native.Mathlib.Omega.{arith}
 use borrow.Author.Tests.{le-leb, lt-leb, leb-true, eq-eqb}
 use lib.Dec.{leb}
-use lib.ListN.{length, take, replicate}
+use lib.ListN.{length, take, replicate, length-replicate}
 use lib.Seq.{take_at}
 use Rattle.base_lists.specs.All.{all_at_most}
 use Rattle.base_lists.specs.Pool.{pad}
@@ -156,6 +156,12 @@ pub pools-full : (mins maxs optional levels preferences rows : List ℕ) → 64 
 unfolding lengths_full
 pools-full mins maxs optional levels preferences rows a b c d e f =
     rw (eq-eqb _ _ (sym a), eq-eqb _ _ (sym b), eq-eqb _ _ (sym c), eq-eqb _ _ (sym d), eq-eqb _ _ (sym e), eq-eqb _ _ (sym f))
+
+-- pools of zeros as the text's makers lend them are at their full limits
+pub zeros-full : pools_full (parts (replicate 64 0) (replicate 64 0) (replicate 64 0) (replicate 64 0) (replicate 12800 0) (replicate 128 0)) ≡ true
+zeros-full =
+    let choices = sym (length-replicate {A = ℕ} 64 0) in
+    pools-full (replicate 64 0) (replicate 64 0) (replicate 64 0) (replicate 64 0) (replicate 12800 0) (replicate 128 0) choices choices choices choices (sym (length-replicate {A = ℕ} 12800 0)) (sym (length-replicate {A = ℕ} 128 0))
 
 module _ (file : List ℕ) (pools : Parts) (full : pools_full pools ≡ true) {result : Read} {pools' : Parts} (e : outcome (read_tells result) pools' ≡ read_of file pools) where
   pub day_case : {counts : FileCounts} → result ≡ read.Day counts → FileRead file counts pools'

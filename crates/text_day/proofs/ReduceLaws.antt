@@ -6,7 +6,7 @@ use Prim.Native.Nat.{ℕ, ◌-◌, ◌≤◌}
 use native.Mathlib.Omega.{arith}
 use borrow.Author.Tests.{leb-true, eq-eqb}
 use lib.Dec.{leb}
-use lib.ListN.{length, take, replicate, length-append}
+use lib.ListN.{length, take, replicate, length-append, length-replicate}
 use lib.Seq.{take_at}
 use Rattle.base_lists.specs.Pool.{pad}
 use Rattle.base_lists.proofs.Pad.{length-pad}
@@ -25,6 +25,10 @@ use Rattle.reduce.proofs.Lists.{result_lists}
 use Rattle.text_day.specs.Prepared.{ready, clash, reduced_to}
 use Rattle.text_day.specs.Prepared as prepared
 use Rattle.text_day.specs.steps.FileGiven.{FileGiven}
+
+-- a pool of zeros as the text's makers lend it is at its full limit
+pub zeros-full : 1024 ≡ length {A = ℕ} (replicate 1024 0)
+zeros-full = sym (length-replicate {A = ℕ} 1024 0)
 
 module _ (counts : Counts) (mins maxs optional rows : List ℕ) (g : FileGiven counts mins maxs optional rows) where
   -- the rows of a read day are reduced, with no refusal but 6

@@ -24,10 +24,8 @@ pub fn search_count(rows: &[u64]) -> usize
     ensures { result ≡ length (search_list rows.now) }
 {
     let mut count = 0;
-    let mut i = 0;
-    while i < rows.len() {
-        count += search_one(rows[i]);
-        i += 1;
+    for row in rows {
+        count += search_one(*row);
     }
     count
 }

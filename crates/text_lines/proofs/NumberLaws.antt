@@ -6,7 +6,7 @@ use Prim.Native.Nat.{ℕ, zero, suc, ◌+◌, ◌*◌, ◌-◌, ◌^◌, ◌≤�
 use native.Mathlib.Nat.{le_trans}
 use native.Mathlib.Numerals.{add-one}
 use native.Mathlib.Omega.{arith}
-use borrow.Author.Tests.{lt-ltb, le-ltb, le-leb, lt-leb, leb-true}
+use borrow.Author.Tests.{lt-ltb, le-ltb, le-leb, leb-true}
 use lib.Dec.{ltb, leb}
 use lib.ListN.{length, get_or, drop, drop_of_length-le}
 use lib.Seq.{drop-cons}
@@ -15,16 +15,6 @@ use Rattle.base_lists.proofs.All.{all-passes, all-fails, all-passed}
 use Rattle.base_lists.proofs.Below.{and_left, and_right}
 use Rattle.text_lines.specs.Number.{is_digit, value_from, is_number, number_in}
 use Rattle.text_lines.specs.declared.number.Number.TheVariants as number
-
--- a byte below `0` is no digit
-pub digit_low : (byte : ℕ) → byte < 48 → false ≡ is_digit byte
-unfolding is_digit
-digit_low byte h = simp (lt-leb 48 byte h)
-
--- from `0` on it is one up to `9`
-pub digit_high : (byte : ℕ) → 48 ≤ byte → leb byte 57 ≡ is_digit byte
-unfolding is_digit
-digit_high byte h = rw (le-leb 48 byte h)
 
 -- a digit is from `0` to `9`
 pub digit_range : (byte : ℕ) → is_digit byte ≡ true → (48 ≤ byte) × (byte ≤ 57)

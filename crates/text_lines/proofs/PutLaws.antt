@@ -1,26 +1,21 @@
 -- Parts of a text put one behind the other.
 use mathlib.Core.Path.{◌≡◌, refl, sym, ap, ◌∙◌}
-use mathlib.Core.Bool.{true, false}
-use mathlib.Core.List.{List, ◌++◌, flat_map}
+use mathlib.Core.List.{List, ◌++◌, append_assoc, flat_map}
 use Prim.Native.Nat.{ℕ, ◌+◌, ◌-◌, ◌≤◌, ◌<◌}
 use native.Mathlib.Omega.{arith}
 use borrow.Author.Tests.{le-leb, lt-leb}
-use lib.Dec.{leb}
-use lib.ListN.{length, get_or, drop, length-append}
-use lib.Seq.{sets, length-sets}
+use lib.ListN.{length, get_or, take, drop, length-append}
+use lib.Seq.{sets, sets-eq, length-sets, drop-drop}
+use borrow.Rule.Slice.PartMut.{put_mid}
 use Rattle.base_lists.proofs.Stores.{sets-append, Each, each-room}
 use Rattle.text_lines.specs.Put.{Pool, pool, put_at}
 use Rattle.text_lines.specs.steps.Put.{Fits, Put}
 
--- the test of room: the place lies behind the pool, the size is more than what is left, or there is room
-pub room-behind : (whole at size : ℕ) → whole < at → false ≡ leb (at + size) whole
-room-behind whole at size h = sym (lt-leb (at + size) whole (omega arith))
-
-pub room-short : (whole at size : ℕ) → at ≤ whole → whole - at < size → false ≡ leb (at + size) whole
-room-short whole at size h l = sym (lt-leb (at + size) whole (omega arith))
-
-pub room-enough : (whole at size : ℕ) → at ≤ whole → size ≤ whole - at → true ≡ leb (at + size) whole
-room-enough whole at size h l = sym (le-leb (at + size) whole (omega arith))
+-- a part that is overwritten is a run of stores from its start on
+pub overwritten : (text : List ℕ) (at : ℕ) (bytes part : List ℕ) → Fits text at bytes → part ≡ bytes → put_mid at (at + length bytes - at) text part ≡ sets text at bytes
+overwritten text at bytes part h e =
+    let n : at + length bytes - at ≡ length bytes = omega arith in
+    rw (e, n, drop-drop (length bytes) at text) (sym (sets-eq bytes text at h ∙ append_assoc (take at text) bytes (drop (at + length bytes) text)))
 
 -- what has no room is not put
 pub put-none : (text : List ℕ) (at : ℕ) (bytes : List ℕ) → length text < at + length bytes → pool text at ≡ put_at text at bytes

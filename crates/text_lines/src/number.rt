@@ -1,22 +1,12 @@
 // A number read from its digits.
 ghost use Rattle.std.specs.Prelude.{◌≡◌};
-ghost use Rattle.text_lines.specs.Number.{is_digit, number_in};
+ghost use Rattle.text_lines.specs.Number.{number_in};
 
 // What the bytes are: a number of 64 bits, or none.
 #[derive(Clone, Copy)]
 pub enum Number {
     Value(u64),
     None,
-}
-
-// Whether a byte is from `0` to `9`.
-fn is_digit(byte: u8) -> bool
-    ensures { result ≡ is_digit byte }
-{
-    if byte < 48 {
-        return false;
-    }
-    byte <= 57
 }
 
 // The number in decimal that the bytes are, of digits alone and below 2^64.
@@ -27,12 +17,11 @@ pub fn number_of(bytes: &[u8]) -> Number
         return Number::None;
     }
     let mut value = 0u64;
-    let mut i = 0;
-    while i < bytes.len() {
-        if !is_digit(bytes[i]) {
+    for byte in bytes {
+        if !byte.is_ascii_digit() {
             return Number::None;
         }
-        let digit = (bytes[i] - 48) as u64;
+        let digit = (*byte - 48) as u64;
         let is_large = 1_844_674_407_370_955_161 < value;
         if is_large {
             return Number::None;
@@ -41,7 +30,6 @@ pub fn number_of(bytes: &[u8]) -> Number
             return Number::None;
         }
         value = 10 * value + digit;
-        i += 1;
     }
     Number::Value(value)
 }

@@ -41,10 +41,8 @@ fn put_choices(text: &mut [u8], at: usize, plan: &[u8]) -> usize
     ensures { Put text.old at (choice_lines 0 plan.now) text.new result }
 {
     let mut next = at;
-    let mut i = 0;
-    while i < plan.len() {
-        next = put_choice(text, next, i, plan[i]);
-        i += 1;
+    for (i, place) in plan.iter().enumerate() {
+        next = put_choice(text, next, i, *place);
     }
     next
 }

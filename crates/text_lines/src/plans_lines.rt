@@ -26,10 +26,8 @@ fn put_places(text: &mut [u8], at: usize, plan: &[u8]) -> usize
     ensures { Put text.old at (flat_map place_text plan.now) text.new result }
 {
     let mut next = at;
-    let mut i = 0;
-    while i < plan.len() {
-        next = put_place(text, next, plan[i]);
-        i += 1;
+    for place in plan {
+        next = put_place(text, next, *place);
     }
     next
 }
@@ -64,11 +62,9 @@ fn put_plans(
         Put text.old at (plan_lines first plans) text.new result }
 {
     let mut next = at;
-    let mut i = 0;
-    while i < count {
+    for i in 0..count {
         let from = i * choices;
         next = put_plan(text, next, first + i as u64, &page[from..from + choices]);
-        i += 1;
     }
     next
 }

@@ -8,13 +8,7 @@ ghost use Rattle.text_lines.specs.steps.Put.{Fits, Put};
 fn has_room(whole: usize, at: usize, size: usize) -> bool
     ensures { result ≡ leb (at + size) whole }
 {
-    if whole < at {
-        return false;
-    }
-    if whole - at < size {
-        return false;
-    }
-    true
+    at <= whole && size <= whole - at
 }
 
 // Puts bytes that have room from a place on.
@@ -22,12 +16,9 @@ fn put_fitting(text: &mut [u8], at: usize, bytes: &[u8]) -> usize
     requires { Fits text.old at bytes.now }
     ensures { Put text.old at bytes.now text.new result }
 {
-    let mut i = 0;
-    while i < bytes.len() {
-        text[at + i] = bytes[i];
-        i += 1;
-    }
-    at + i
+    let end = at + bytes.len();
+    text[at..end].copy_from_slice(bytes);
+    end
 }
 
 // Puts bytes as they are from a place on, where there is room.

@@ -10,7 +10,6 @@ ghost use Rattle.text_day.specs.steps.FileGiven.{FileGiven};
 ghost use Rattle.text_plan.specs.PlanAnswer.{plan_counts, search_answer, reduce_answer};
 ghost use Rattle.text_plan.specs.Calls.{plan_text, text_of};
 
-use base_pools::{clear_bytes, zeros};
 use day_file::counts::FileCounts;
 use day_file::read::{Read, read_day};
 use day_file::word::LONGEST_FILE;
@@ -63,7 +62,7 @@ fn put_search(
         levels.now preferences.now rows.now in
         pool text.new result ≡ put_at text.old 0 (answer_text answer) }
 {
-    let mut plan = zeros::bytes();
+    let mut plan = [0u8; 64];
     let searched = plan_day(
         counts,
         Analysis::Simplified,
@@ -118,7 +117,7 @@ fn put_day(
         levels.now preferences.now rows.now in
         pool text.new result ≡ put_at text.old 0 (answer_text (reduce_answer counts lists)) }
 {
-    let mut pool = zeros::numbers();
+    let mut pool = [0u64; 1024];
     let reduced = reduce(counts.for_rows(), rows, &mut pool);
     match reduced {
         Reduced::Rows(reduction) => {
@@ -149,12 +148,12 @@ fn put_plan_of_file(file: &[u8], text: &mut [u8]) -> usize
     if LONGEST_FILE < file.len() {
         return put_refusal(text, Refusal::FileLength);
     }
-    let mut mins = zeros::words();
-    let mut maxs = zeros::words();
-    let mut optional = zeros::bytes();
-    let mut levels = zeros::words();
-    let mut preferences = zeros::preferences();
-    let mut rows = zeros::given_rows();
+    let mut mins = [0u16; 64];
+    let mut maxs = [0u16; 64];
+    let mut optional = [0u8; 64];
+    let mut levels = [0u16; 64];
+    let mut preferences = [0u16; 12800];
+    let mut rows = [0u64; 128];
     let read = read_day(
         file,
         &mut mins,
@@ -186,6 +185,6 @@ pub fn plan_text(file: &[u8], text: &mut [u8]) -> Made
     if text.len() != LONGEST_TEXT {
         return Made::Refused(Refusal::Length);
     }
-    clear_bytes(text);
+    text.fill(0);
     Made::Text(put_plan_of_file(file, text))
 }

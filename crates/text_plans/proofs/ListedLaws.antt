@@ -9,7 +9,7 @@ use native.Mathlib.Nat.{mul-le-mul_right, suc-mul, zero-mul}
 use native.Mathlib.Omega.{arith}
 use borrow.Author.Tests.{leb-true, leb-false}
 use lib.Dec.{leb}
-use lib.ListN.{length, take, drop, length-append, length-take, length-drop}
+use lib.ListN.{length, take, drop, replicate, length-append, length-replicate, length-take, length-drop}
 use lib.Seq.{take_at, drop_at, take_all, take-length, sets, sets-eq, length-sets, length-take-le}
 use Rattle.base_lists.proofs.Keep.{in_map, in_flat_map, kept_in}
 use Rattle.day_rows.specs.Check.{counts_in_range, rows_judged}
@@ -229,6 +229,10 @@ module _ (day : Day) (first room budget : ℕ) where
 
 -- ---- the call as the text's maker makes it: a page of 65,536 bytes, of which it lends as many as the room
 -- asks for
+
+-- a page of zeros is at its full limit
+pub page-full : 65536 ≡ length {A = ℕ} (replicate 65536 0)
+page-full = sym (length-replicate {A = ℕ} 65536 0)
 
 module _ (day : Day) (first room budget : ℕ) (is-good : judge_of day room (room * day.counts.choices) ≡ good) (rooms : room ≤ 1024) (array : List ℕ) (full : 65536 ≡ length array) where
   abbrev size : ℕ

@@ -9,7 +9,6 @@ ghost use Rattle.text_day.specs.steps.FileGiven.{FileGiven};
 ghost use Rattle.text_plans.specs.PlansAnswer.{Lists, ReduceAnswers, Answers};
 ghost use Rattle.text_plans.specs.Calls.{Puts, TextFits};
 
-use base_pools::{clear_bytes, zeros};
 use day_file::read::{Read, read_day};
 use day_file::word::LONGEST_FILE;
 use day_rows::check::Counts;
@@ -52,7 +51,7 @@ fn put_plans_of(
         day_of counts mins.now maxs.now optional.now rows.now in
         Puts (Lists day first room budget) text.old text.new result }
 {
-    let mut buffer = zeros::page();
+    let mut buffer = [0u8; 65536];
     let size = room as usize * counts.choices;
     let paged = list_page(
         counts,
@@ -117,7 +116,7 @@ fn put_day(
         rows.now first room budget in
         Puts May text.old text.new result }
 {
-    let mut pool = zeros::numbers();
+    let mut pool = [0u64; 1024];
     let reduced = reduce(counts, rows, &mut pool);
     match reduced {
         Reduced::Rows(reduction) => {
@@ -156,12 +155,12 @@ fn put_plans_of_file(file: &[u8], first: u64, room: u64, budget: u64, text: &mut
     if LONGEST_FILE < file.len() {
         return put_refusal(text, Refusal::FileLength);
     }
-    let mut mins = zeros::words();
-    let mut maxs = zeros::words();
-    let mut optional = zeros::bytes();
-    let mut levels = zeros::words();
-    let mut preferences = zeros::preferences();
-    let mut rows = zeros::given_rows();
+    let mut mins = [0u16; 64];
+    let mut maxs = [0u16; 64];
+    let mut optional = [0u8; 64];
+    let mut levels = [0u16; 64];
+    let mut preferences = [0u16; 12800];
+    let mut rows = [0u64; 128];
     let read = read_day(
         file,
         &mut mins,
@@ -199,6 +198,6 @@ pub fn plans_text(file: &[u8], first: u64, room: u64, budget: u64, text: &mut [u
     if text.len() != LONGEST_TEXT {
         return Made::Refused(Refusal::Length);
     }
-    clear_bytes(text);
+    text.fill(0);
     Made::Text(put_plans_of_file(file, first, room, budget, text))
 }

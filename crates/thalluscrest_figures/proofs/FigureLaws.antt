@@ -3,14 +3,12 @@ use mathlib.Core.Path.{◌≡◌, refl, sym, ◌∙◌, ap, ap₂}
 use mathlib.Core.Bool.{Bool}
 use mathlib.Core.List.{List, [], ◌∷◌}
 use Prim.Native.Nat.{ℕ}
-use borrow.Author.Tests.{eq-eqb, ne_eqb}
 use lib.ListN.{length}
 use Rattle.reduce.specs.Reduction.{reduced_tells}
 use Rattle.reduce.specs.declared.Reduced.{Reduced}
 use Rattle.reduce.specs.declared.Reduced.TheVariants as reduced
 use Rattle.reduce.specs.declared.Reduction.{Reduction}
 use Rattle.sets_analysis.specs.declared.analysis.Analysis.{Analysis}
-use Rattle.sets_analysis.specs.declared.analysis.Analysis.TheVariants as mode
 use Rattle.search_meaning.specs.declared.settings.Settings.{Settings}
 use Rattle.thalluscrest_figures.specs.Codes.{yes, analysis_by, settings_by}
 use Rattle.thalluscrest_figures.specs.Crossing.{answer, refusal_figures, told_figures}
@@ -42,17 +40,6 @@ reduction-told pool {known} {reduction} {clash} {searched} {seated} k c s r =
     ∙ ap₂ (λ (n m : ℕ). answer 0 (reduction.count ∷ flag reduction.clash ∷ n ∷ m ∷ 0 ∷ 0 ∷ 0 ∷ 0 ∷ []))
     (s ∙ ap length (search-kinds pool)) (r ∙ ap length (roster-kinds pool))
     ∙ sym (ap (λ (a : Reduced). told_figures (reduction_figures pool) (reduced_tells a)) k)
-
--- ---- the analysis of a number
-
-pub analysis_off : {code : ℕ} → code ≡ 0 → mode.Off ≡ analysis_by code
-analysis_off {code} e = rw (eq-eqb code 0 e)
-
-pub analysis_on : {code : ℕ} → (code ≡ 0 → ⊥) → code ≡ 1 → mode.On ≡ analysis_by code
-analysis_on {code} n e = rw (ne_eqb code 0 n, eq-eqb code 1 e)
-
-pub analysis_simplified : {code : ℕ} → (code ≡ 0 → ⊥) → (code ≡ 1 → ⊥) → mode.Simplified ≡ analysis_by code
-analysis_simplified {code} n m = rw (ne_eqb code 0 n, ne_eqb code 1 m)
 
 -- ---- the settings of a search
 

@@ -10,10 +10,7 @@ use sets_analysis::analysis::Analysis;
 pub fn as_figure(test: bool) -> u64
     ensures { result ≡ flag test }
 {
-    if test {
-        return 1;
-    }
-    0
+    u64::from(test)
 }
 
 // A flag by its number: 0 is no, every other number yes.
@@ -27,13 +24,11 @@ pub fn is_yes(code: u8) -> bool
 pub fn analysis_by(code: u8) -> Analysis
     ensures { result ≡ analysis_by code }
 {
-    if code == 0 {
-        return Analysis::Off;
+    match code {
+        0 => Analysis::Off,
+        1 => Analysis::On,
+        _ => Analysis::Simplified,
     }
-    if code == 1 {
-        return Analysis::On;
-    }
-    Analysis::Simplified
 }
 
 // The settings of a search by their numbers.

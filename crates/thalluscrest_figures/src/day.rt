@@ -68,10 +68,8 @@ fn count_kinds(low: u16, high: u16, rows: &[u64]) -> usize
     ensures { result ≡ length (of_kinds low high rows.now) }
 {
     let mut count = 0;
-    let mut i = 0;
-    while i < rows.len() {
-        count += one_of_kinds(low, high, rows[i]);
-        i += 1;
+    for row in rows {
+        count += one_of_kinds(low, high, *row);
     }
     count
 }

@@ -11,20 +11,8 @@ fn row_of(why: Refusal) -> u64
     ensures { result ≡ row_carried (carried_by why) }
 {
     match why {
-        Refusal::Count => 0,
-        Refusal::Length => 0,
-        Refusal::Levels => 0,
-        Refusal::Preference => 0,
         Refusal::Row(row) => row as u64,
-        Refusal::TooMany => 0,
-        Refusal::Sets => 0,
-        Refusal::Orders => 0,
-        Refusal::PlanCell => 0,
-        Refusal::RosterCell => 0,
-        Refusal::FileLength => 0,
-        Refusal::Version => 0,
-        Refusal::Optional => 0,
-        Refusal::Map => 0,
+        _ => 0,
     }
 }
 

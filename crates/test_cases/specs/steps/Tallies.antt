@@ -1,5 +1,5 @@
 -- A tally with one case more, and what the end of a file adds to it.
-use Rattle.std.specs.Prelude.{◌≡◌, ◌+◌, ◌%◌, ◌^◌, Bool, false, cond, ◌⊎◌, ◌==◌}
+use Rattle.std.specs.Prelude.{◌+◌, ◌%◌, ◌^◌, Bool, false, cond, ◌==◌}
 use Rattle.test_cases.specs.declared.Next.{Next}
 use Rattle.test_cases.specs.declared.Next.TheVariants as next
 use Rattle.test_cases.specs.declared.Tally.{Tally}
@@ -18,7 +18,3 @@ unfoldable pub closed : Next → Tally → Tally
 closed (next.Record size) tally = tally
 closed next.End tally = tally
 closed next.Broken tally = counted tally false
-
--- the tally once the file was read on: as it was, or with the difference that a broken record counts as
-abbrev pub ReadOn : Tally → Tally → Type 0
-ReadOn before after = (after ≡ before) ⊎ (after ≡ counted before false)

@@ -3,27 +3,27 @@ use Rattle.text_lines.specs.PlansLines.{place_text}
 use Rattle.text_lines.proofs.PutLaws.{each_fits}
 use Rattle.text_lines.proofs.plans_lines.put_places.Goals as goal
 
-pub loop-i-init : goal.loop-i-init
-loop-i-init c =
+pub loop-place-init : goal.loop-place-init
+loop-place-init c =
     let a = c.args in
     (c.requires, each_start place_text a.plan.now a.text.now a.at)
 
 pub put_place-next-requires : goal.put_place-next-requires
 put_place-next-requires c =
     let a = c.args in
-    let l = c.loop-i in
-    each_fits place_text a.plan.now a.text.now a.at l.i 0 l.invariant.0 l.invariant.1 c.loop-i-test.true
+    let l = c.loop-place in
+    each_fits place_text a.plan.now a.text.now a.at l.place-index 0 l.invariant.0 l.invariant.1 c.loop-place-test.true
 
-pub loop-i-preserved : goal.loop-i-preserved
-loop-i-preserved c =
+pub loop-place-preserved : goal.loop-place-preserved
+loop-place-preserved c =
     let a = c.args in
-    let l = c.loop-i in
-    (l.invariant.0, each_part place_text a.plan.now l.i 0 c.loop-i-test.true l.invariant.1 c.put_place-next.ensures)
+    let l = c.loop-place in
+    (l.invariant.0, each_part place_text a.plan.now l.place-index 0 c.loop-place-test.true l.invariant.1 c.put_place-next.ensures)
 
 pub shape_of-text : goal.shape_of-text
 shape_of-text c =
-    c.loop-i.invariant.1.1.same
+    c.loop-place.invariant.1.1.same
 
 pub returns : goal.returns
 returns c =
-    each-end place_text c.args.plan.now c.loop-i.i c.loop-i-test.false c.loop-i.invariant.1
+    each-end place_text c.args.plan.now c.loop-place.place-index c.loop-place-test.false c.loop-place.invariant.1

@@ -6,4 +6,4 @@ pub returns-then-text-ne-LONGEST_TEXT : goal.returns-then-text-ne-LONGEST_TEXT
 returns-then-text-ne-LONGEST_TEXT c = text-length _ _ c.if-text-ne-LONGEST_TEXT.true
 
 pub returns : goal.returns
-returns c = text-made _ _ c.if-text-ne-LONGEST_TEXT.false c.clear_bytes.ensures c.put_plan_of_file.ensures
+returns c = text-made _ _ c.if-text-ne-LONGEST_TEXT.false (c.fill.ensures.after (λ _ e. e)) c.put_plan_of_file.ensures

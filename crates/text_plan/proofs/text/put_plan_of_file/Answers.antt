@@ -8,7 +8,7 @@ use Rattle.day_file.specs.Calls.{file_judged}
 use Rattle.day_file.specs.FileDay.{parts}
 use Rattle.text_lines.proofs.PutLaws.{put_as}
 use Rattle.text_lines.proofs.PlanLineLaws.{refused-is}
-use Rattle.text_day.proofs.FileLaws.{FileRead, pools-full, day_case, refused_case, few-preferences, mins-within, maxs-within, optional-within, levels-within, preferences-within, rows-within, day-given, prepared_long, prepared_refused}
+use Rattle.text_day.proofs.FileLaws.{FileRead, zeros-full, day_case, refused_case, few-preferences, mins-within, maxs-within, optional-within, levels-within, preferences-within, rows-within, day-given, prepared_long, prepared_refused}
 use Rattle.text_plan.proofs.AnswerLaws.{answer-refused, day-answer}
 use Rattle.text_plan.proofs.CallLaws.{text-of}
 use Rattle.text_plan.proofs.text.put_plan_of_file.Goals as goal
@@ -23,16 +23,12 @@ returns-then-file-gt-LONGEST_FILE c =
 filled : (c : In-Day)
     → FileRead c.args.file.now c.in-Day.counts (parts c.read_day-read.new.mins c.read_day-read.new.maxs c.read_day-read.new.optional c.read_day-read.new.levels c.read_day-read.new.preferences c.read_day-read.new.rows)
 filled c =
-    -- the pools are lent at their full limits
-    let full = pools-full c.words-mins.result c.words-maxs.result c.bytes-optional.result c.words-levels.result c.preferences-preferences.result c.given_rows-rows.result c.words-mins.ensures.0 c.words-maxs.ensures.0 c.bytes-optional.ensures.0 c.words-levels.ensures.0 c.preferences-preferences.ensures.0 c.given_rows-rows.ensures.0 in
-    day_case c.args.file.now _ full c.read_day-read.ensures c.in-Day.is
+    day_case c.args.file.now _ zeros-full c.read_day-read.ensures c.in-Day.is
 
 -- or it is refused
 unread : (c : In-Refused) → file_judged c.args.file.now ≡ refused (number_of c.in-Refused.why) (carried_by c.in-Refused.why)
 unread c =
-    -- the pools are lent at their full limits
-    let full = pools-full c.words-mins.result c.words-maxs.result c.bytes-optional.result c.words-levels.result c.preferences-preferences.result c.given_rows-rows.result c.words-mins.ensures.0 c.words-maxs.ensures.0 c.bytes-optional.ensures.0 c.words-levels.ensures.0 c.preferences-preferences.ensures.0 c.given_rows-rows.ensures.0 in
-    refused_case c.args.file.now _ full c.read_day-read.ensures c.in-Refused.is
+    refused_case c.args.file.now _ zeros-full c.read_day-read.ensures c.in-Refused.is
 
 pub slice_bounds-mins-end : goal.slice_bounds-mins-end
 slice_bounds-mins-end c = let f = filled (goal.at.slice_bounds-mins-end c).In-Day in mins-within _ f

@@ -11,4 +11,4 @@ returns-then-text-ne-LONGEST_TEXT c =
 
 pub returns : goal.returns
 returns c =
-    text-made _ _ _ _ _ c.if-room-gt-MOST_ROOM.false c.if-text-ne-LONGEST_TEXT.false c.clear_bytes.ensures c.put_plans_of_file.ensures
+    text-made _ _ _ _ _ c.if-room-gt-MOST_ROOM.false c.if-text-ne-LONGEST_TEXT.false (c.fill.ensures.after (λ _ e. e)) c.put_plans_of_file.ensures

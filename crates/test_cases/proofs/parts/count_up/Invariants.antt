@@ -1,9 +1,0 @@
--- The loop fills the list from the front, and the list keeps its length.
-use Rattle.std.proofs.Common.{◌≡◌, ◌-◌, ◌≤◌, length}
-use Rattle.test_cases.proofs.parts.count_up.Given as goal
-
-abbrev pub invariant-loop-i : goal.invariant-loop-i
-invariant-loop-i l = (length l.whole ≡ length l.initial.whole) × (l.i ≤ length l.initial.whole)
-
-abbrev pub decreases-loop-i : goal.decreases-loop-i
-decreases-loop-i l = length l.initial.whole - l.i

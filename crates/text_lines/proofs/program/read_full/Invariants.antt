@@ -1,0 +1,9 @@
+-- No more was read than the list has room for.
+use Rattle.std.proofs.Common.{◌-◌, ◌≤◌, length}
+use Rattle.text_lines.proofs.program.read_full.Given as goal
+
+abbrev pub invariant-loop-done : goal.invariant-loop-done
+invariant-loop-done g l = l.done ≤ length l.bytes
+
+abbrev pub decreases-loop-done : goal.decreases-loop-done
+decreases-loop-done g l = length l.initial.bytes - l.done

@@ -1,0 +1,41 @@
+// What the programs share: an argument that is there or not, a file read from the input, and the front of a
+// pool that holds a text.
+ghost use Rattle.std.specs.Prelude.{◌≡◌, ◌≤◌, length, take};
+
+use std::env::{Env, FillError};
+use std::io::Read;
+
+// Whether the program has an argument of this number, its own name being 0.
+pub fn is_given(rt: &impl Env, at: usize) -> bool {
+    !matches!(rt.arg(at, &mut []), Err(FillError::NotPresent))
+}
+
+// Reads until the list is full, or the input ends or can't be read, and answers how many bytes it put at the
+// list's front.
+pub fn read_full(input: &mut impl Read, bytes: &mut [u8]) -> usize
+    ensures { result ≤ length bytes.new }
+{
+    let mut done = 0;
+    // No count: each read goes on by as many bytes as it got.
+    while done < bytes.len() {
+        let got = input.read(&mut bytes[done..]);
+        let Ok(n) = got else {
+            break;
+        };
+        if n == 0 {
+            break;
+        }
+        done += n;
+    }
+    done
+}
+
+// The text of a size that the pool holds from its front on.
+pub fn front(text: &[u8], size: usize) -> &[u8]
+    ensures { result.now ≡ take size text.now }
+{
+    if text.len() < size {
+        return text;
+    }
+    &text[..size]
+}
