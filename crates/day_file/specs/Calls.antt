@@ -1,13 +1,11 @@
 -- What reading a day file answers, and what it leaves in the pools.
 use Rattle.std.specs.Prelude.{List, ℕ, ◌-◌, eqb, leb, length}
 use Rattle.base_lists.specs.All.{all_at_most}
-use Rattle.day_rows.specs.Told.{Told, done, Verdict, good, refusal_tells, unless, and_then, Outcome, outcome, judged}
+use Rattle.day_rows.specs.Told.{done, Verdict, good, unless, and_then, Outcome, outcome, judged}
 use Rattle.day_rows.specs.Levels.{levels_rise, last_level}
 use Rattle.day_file.specs.FileDay.{Parts, FileDay, file_counts_in_range, day_rows_judged, pools_full, padded}
 use Rattle.day_file.specs.File.{places_of, length_in, version_in, counts_in, lists_in, day_in}
 use Rattle.day_file.specs.declared.counts.FileCounts.{FileCounts}
-use Rattle.day_file.specs.declared.read.Read.{Read}
-use Rattle.day_file.specs.declared.read.Read.TheVariants as read
 
 -- a file's head judged: 'a file goes 11, 12, 1, 11 for the counted body'
 unfoldable pub head_judged : List ℕ → Verdict
@@ -27,11 +25,6 @@ body_judged d =
 
 unfoldable pub file_judged : List ℕ → Verdict
 file_judged file = and_then (head_judged file) (body_judged (day_in file))
-
--- what a reader's answer tells: the counts of the day in the pools, or 01's number
-abbrev pub read_tells : Read → Told FileCounts
-read_tells (read.Day counts) = done counts
-read_tells (read.Refused why) = refusal_tells why
 
 -- what reading leaves: the day, each pool zero past its list; or a number and every pool untouched. A pool of
 -- the wrong length is the caller's fault and comes before any fault of the file

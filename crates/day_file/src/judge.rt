@@ -2,13 +2,15 @@
 ghost use Rattle.std.specs.Prelude.{◌≡◌, ◌+◌, ◌*◌, ◌-◌, ◌≤◌, leb, ltb, length, get_or};
 ghost use Rattle.base_lists.specs.Below.{all_below};
 ghost use Rattle.base_lists.specs.Flat.{list_below};
-ghost use Rattle.day_rows.specs.Check.{checked_tells, rows_judged};
+ghost use Rattle.day_rows.specs.Check.{rows_judged};
+ghost use Rattle.day_rows.specs.Told.{tells};
 ghost use Rattle.day_rows.specs.declared.check.Takes.TheVariants as takes;
 ghost use Rattle.day_file.specs.File.{word_at, row_at};
 
 use super::fill::put_rows;
 use super::word::word_at;
-use day_rows::check::{Checked, Counts, Takes};
+use day_rows::check::{Counts, Takes};
+use day_rows::refusal::Refusal;
 
 // Whether the optional byte of each of n choices is 0 or 1.
 pub(crate) fn optional_in(file: &[u8], n: usize) -> bool
@@ -51,11 +53,11 @@ pub(crate) fn preferences_in(file: &[u8], at: usize, n: usize, last: u16) -> boo
 }
 
 // The row check on the n rows that stand from a place on: the one table judges them.
-pub(crate) fn rows_in(file: &[u8], at: usize, n: usize, counts: Counts) -> Checked
-    requires fact_1 { n ≤ 128 }
-    requires fact_2 { at + 6 * n ≤ length file.now }
+pub(crate) fn rows_in(file: &[u8], at: usize, n: usize, counts: Counts) -> Result<(), Refusal>
+    requires few { n ≤ 128 }
+    requires within { at + 6 * n ≤ length file.now }
     ensures { let rows = list_below n (λ i. row_at file.now (at + 6 * i)) in
-        checked_tells result ≡ rows_judged counts takes.Given rows }
+        tells result ≡ rows_judged counts takes.Given rows }
 {
     let mut rows = [0u64; 128];
     put_rows(file, at, n, &mut rows);

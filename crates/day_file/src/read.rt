@@ -1,25 +1,16 @@
 // Reading a day file: the bytes are judged first, then the pools are filled.
 ghost use Rattle.std.specs.Prelude.{◌≡◌, true, ◌≤◌, length};
-ghost use Rattle.day_rows.specs.Check.{checked_tells};
-ghost use Rattle.day_rows.specs.Told.{outcome};
+ghost use Rattle.day_rows.specs.Told.{outcome, tells};
 ghost use Rattle.day_file.specs.FileDay.{parts, file_counts_in_range, pools_full, lengths_full, padded, day};
 ghost use Rattle.day_file.specs.File.{length_in, counts_in, places_of, lists_in};
-ghost use Rattle.day_file.specs.Calls.{head_judged, body_judged, file_judged, read_tells, read_of};
+ghost use Rattle.day_file.specs.Calls.{head_judged, body_judged, file_judged, read_of};
 
 use super::counts::FileCounts;
 use super::file_words::rest_of;
 use super::fill::{fill_optional, fill_rows, fill_words};
 use super::judge::{levels_in, optional_in, preferences_in, rows_in};
 use super::word::word_at;
-use day_rows::check::Checked;
 use day_rows::refusal::Refusal;
-
-// What reading answers: the `FileCounts` of the day that stands in the pools, or why there is none.
-#[derive(Clone, Copy)]
-pub enum Read {
-    Day(FileCounts),
-    Refused(Refusal),
-}
 
 // The length that a file tells of itself: 'Four bytes: length of the rest'.
 fn length_in(file: &[u8]) -> usize
@@ -46,40 +37,40 @@ fn counts_in(file: &[u8]) -> FileCounts
 }
 
 // A file's head judged: 'a file goes 11, 12, 1, 11 for the counted body'.
-fn judge_head(file: &[u8]) -> Checked
-    ensures { checked_tells result ≡ head_judged file.now }
+fn judge_head(file: &[u8]) -> Result<(), Refusal>
+    ensures { tells result ≡ head_judged file.now }
 {
     if file.len() < 11 {
-        return Checked::Refused(Refusal::FileLength);
+        return Err(Refusal::FileLength);
     }
     if length_in(file) != rest_of(file.len()) {
-        return Checked::Refused(Refusal::FileLength);
+        return Err(Refusal::FileLength);
     }
     if file[4] != 1 {
-        return Checked::Refused(Refusal::Version);
+        return Err(Refusal::Version);
     }
     let counts = counts_in(file);
     if !counts.in_range() {
-        return Checked::Refused(Refusal::Count);
+        return Err(Refusal::Count);
     }
     if counts.places().end != file.len() {
-        return Checked::Refused(Refusal::FileLength);
+        return Err(Refusal::FileLength);
     }
-    Checked::Good
+    Ok(())
 }
 
 // The body of a file whose head is good, judged: '13, 3, 4, 5'.
-fn judge_body(file: &[u8], counts: FileCounts) -> Checked
-    requires fact_1 { file_counts_in_range counts ≡ true }
-    requires fact_2 { (places_of 5 counts).end ≡ length file.now }
-    ensures { checked_tells result ≡ body_judged (day counts (lists_in file.now counts)) }
+fn judge_body(file: &[u8], counts: FileCounts) -> Result<(), Refusal>
+    requires ranges { file_counts_in_range counts ≡ true }
+    requires end { (places_of 5 counts).end ≡ length file.now }
+    ensures { tells result ≡ body_judged (day counts (lists_in file.now counts)) }
 {
     let places = counts.places();
     if !optional_in(file, counts.choices) {
-        return Checked::Refused(Refusal::Optional);
+        return Err(Refusal::Optional);
     }
     if !levels_in(file, places.levels, counts.levels) {
-        return Checked::Refused(Refusal::Levels);
+        return Err(Refusal::Levels);
     }
     let last = word_at(file, places.preferences - 2);
     if !preferences_in(
@@ -88,19 +79,16 @@ fn judge_body(file: &[u8], counts: FileCounts) -> Checked
         counts.choosers * counts.choices,
         last,
     ) {
-        return Checked::Refused(Refusal::Preference);
+        return Err(Refusal::Preference);
     }
     rows_in(file, places.rows, counts.rows, counts.for_rows())
 }
 
 // The whole file judged, head and body, with no pool touched.
-fn judge_file(file: &[u8]) -> Checked
-    ensures { checked_tells result ≡ file_judged file.now }
+fn judge_file(file: &[u8]) -> Result<(), Refusal>
+    ensures { tells result ≡ file_judged file.now }
 {
-    let head = judge_head(file);
-    if let Checked::Refused(why) = head {
-        return Checked::Refused(why);
-    }
+    judge_head(file)?;
     judge_body(file, counts_in(file))
 }
 
@@ -144,11 +132,9 @@ fn fill_pools(
     preferences: &mut [u16],
     rows: &mut [u64],
 )
-    requires fact_1 { let pools = parts mins.old maxs.old optional.old levels.old preferences.old rows.old in
-        file_counts_in_range counts ≡ true }
-    requires fact_2 { let pools = parts mins.old maxs.old optional.old levels.old preferences.old rows.old in
-        (places_of 5 counts).end ≡ length file.now }
-    requires fact_3 { let pools = parts mins.old maxs.old optional.old levels.old preferences.old rows.old in
+    requires ranges { file_counts_in_range counts ≡ true }
+    requires end { (places_of 5 counts).end ≡ length file.now }
+    requires full { let pools = parts mins.old maxs.old optional.old levels.old preferences.old rows.old in
         pools_full pools ≡ true }
     ensures { let filled = parts mins.new maxs.new optional.new
         levels.new preferences.new rows.new in
@@ -178,12 +164,12 @@ pub fn read_day(
     levels: &mut [u16],
     preferences: &mut [u16],
     rows: &mut [u64],
-) -> Read
+) -> Result<FileCounts, Refusal>
     ensures { let before = parts mins.old maxs.old optional.old
         levels.old preferences.old rows.old in
         let after = parts mins.new maxs.new optional.new
         levels.new preferences.new rows.new in
-        outcome (read_tells result) after ≡ read_of file.now before }
+        outcome (tells result) after ≡ read_of file.now before }
 {
     if !pools_full(
         mins.len(),
@@ -193,12 +179,9 @@ pub fn read_day(
         preferences.len(),
         rows.len(),
     ) {
-        return Read::Refused(Refusal::Length);
+        return Err(Refusal::Length);
     }
-    let judged = judge_file(file);
-    if let Checked::Refused(why) = judged {
-        return Read::Refused(why);
-    }
+    judge_file(file)?;
     let counts = counts_in(file);
     fill_pools(
         file,
@@ -210,5 +193,5 @@ pub fn read_day(
         preferences,
         rows,
     );
-    Read::Day(counts)
+    Ok(counts)
 }

@@ -38,5 +38,5 @@ pub(crate) fn row_at(file: &[u8], at: usize) -> u64
         right: word_at(file, at + 2),
         extra: flip_sign_bit(word_at(file, at + 4)),
     };
-    row.number()
+    u64::from(row)
 }

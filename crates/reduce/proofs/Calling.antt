@@ -13,13 +13,10 @@ use Rattle.base_lists.specs.Sorted.{unique_sorted}
 use Rattle.base_lists.proofs.Pad.{length-pad}
 use Rattle.base_lists.proofs.Sorted.{length_unique}
 use Rattle.base_lists.proofs.Stores.{take-sets}
-use Rattle.day_rows.specs.Check.{counts_in_range, rows_judged, checked_tells}
-use Rattle.day_rows.specs.Told.{Verdict, done, refuse, refusal_tells, Outcome, outcome, judged}
+use Rattle.day_rows.specs.Check.{counts_in_range, rows_judged}
+use Rattle.day_rows.specs.Told.{Verdict, done, good, refuse, refused, Outcome, outcome, judged}
 use Rattle.day_rows.specs.declared.check.Counts.{Counts}
 use Rattle.day_rows.specs.declared.check.Takes.TheVariants as takes
-use Rattle.day_rows.specs.declared.check.Checked.{Checked}
-use Rattle.day_rows.specs.declared.check.Checked.TheVariants as checked
-use Rattle.day_rows.specs.declared.refusal.Refusal.{Refusal}
 use Rattle.day_rows.proofs.CountLaws.{within}
 use Rattle.reduce_turn.specs.Turn.{clash_of}
 use Rattle.reduce.specs.steps.Expand.{PoolFilled, PoolLent}
@@ -126,10 +123,10 @@ module _ (counts : Counts) (rows pool : List ℕ) where
       unfolding reduce_of
       call_checked e = rw (t, eq-eqb (length rows) counts.rows r, eq-eqb (length pool) 1024 p) (ap (λ (told : Verdict). judged told pool (reduction_of counts rows)) e)
 
-      pub call_bad : {answer : Checked} (why : Refusal) → checked_tells answer ≡ rows_judged counts takes.Given rows → answer ≡ checked.Refused why
-          → outcome (refusal_tells why) pool ≡ reduce_of counts rows pool
-      call_bad why e q = ap (λ (a : Checked). judged (checked_tells a) pool (reduction_of counts rows)) (sym q) ∙ call_checked e
+      pub call_bad : {number : ℕ} {carried : List ℕ} → refused number carried ≡ rows_judged counts takes.Given rows
+          → outcome (refused number carried) pool ≡ reduce_of counts rows pool
+      call_bad e = call_checked e
 
-      pub call_good : {answer : Checked} {told : Outcome Reduction (List ℕ)} → checked_tells answer ≡ rows_judged counts takes.Given rows → answer ≡ checked.Good → told ≡ reduction_of counts rows
+      pub call_good : {told : Outcome Reduction (List ℕ)} → good ≡ rows_judged counts takes.Given rows → told ≡ reduction_of counts rows
           → told ≡ reduce_of counts rows pool
-      call_good e q g = g ∙ ap (λ (a : Checked). judged (checked_tells a) pool (reduction_of counts rows)) (sym q) ∙ call_checked e
+      call_good e g = g ∙ call_checked e

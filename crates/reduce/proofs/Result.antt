@@ -1,24 +1,23 @@
 -- Laws of the result: it rises strictly, its rows are the turned rows and the added ones, and no two outcomes
 -- fit.
-use mathlib.Core.Path.{◌≡◌, refl, ap}
+use mathlib.Core.Path.{◌≡◌}
 use mathlib.Core.List.Memᴰ
 use mathlib.Core.List.{List, Memᴰ}
 use mathlib.Core.Logic.{⊎_elim}
 use Prim.Native.Nat.{ℕ}
 use Rattle.base_lists.specs.Sorted.{Rises}
 use Rattle.base_lists.proofs.Sorted.{unique_rises, unique_member, unique_has}
-use Rattle.day_rows.specs.Told.{Told, done, refused, outcome}
+use Rattle.std.specs.Prelude.{Result}
+use Rattle.day_rows.specs.Told.{outcome, tells}
+use Rattle.day_rows.specs.declared.refusal.Refusal.{Refusal}
 use Rattle.day_rows.specs.declared.check.Counts.{Counts}
-use Rattle.day_rows.proofs.ToldLaws as laws
-use Rattle.day_rows.proofs.ToldLaws.{refusal_of, refusal-back}
+use Rattle.day_rows.proofs.ToldLaws.{one_told-outcome}
 use Rattle.reduce_turn.specs.Turn.{turned_rows}
 use Rattle.reduce_added.specs.Groups.{same_choosers}
 use Rattle.reduce_added.specs.Pairs.{group_pairs, mandatory_pairs}
 use Rattle.reduce_added.specs.Copies.{copies_all}
-use Rattle.reduce.specs.Reduction.{added_to, expanded, reduced_rows, reduced_tells, reduce_of}
+use Rattle.reduce.specs.Reduction.{added_to, expanded, reduced_rows, reduce_of}
 use Rattle.reduce.specs.declared.Reduction.{Reduction}
-use Rattle.reduce.specs.declared.Reduced.{Reduced}
-use Rattle.reduce.specs.declared.Reduced.TheVariants as reduced
 
 module _ (counts : Counts) (rows : List ℕ) where
   -- the result rises strictly: 'All rows sort .., and equal rows become one'
@@ -54,16 +53,7 @@ module _ (counts : Counts) (rows : List ℕ) where
       unique_has (expanded counts rows)
       (Memᴰ.append_right (turned_rows rows) (Memᴰ.append_right (group_pairs groups) (Memᴰ.append_right (mandatory_pairs (turned_rows rows) counts.choosers) m)))
 
--- reduce's answer, read back from what it tells
-abbrev reduced_of : Told Reduction → Reduced
-reduced_of (done reduction) = reduced.Rows reduction
-reduced_of (refused number carried) = reduced.Refused (refusal_of number carried)
-
-reduced_back : (answer : Reduced) → reduced_of (reduced_tells answer) ≡ answer
-reduced_back (reduced.Rows reduction) = refl
-reduced_back (reduced.Refused why) = ap reduced.Refused (refusal-back why)
-
 -- no two outcomes fit what `reduce` promises
-pub one-outcome : (counts : Counts) (rows pool : List ℕ) {r s : Reduced} {p q : List ℕ}
-    → outcome (reduced_tells r) p ≡ reduce_of counts rows pool → outcome (reduced_tells s) q ≡ reduce_of counts rows pool → (r ≡ s) × (p ≡ q)
-one-outcome counts rows pool = laws.one-outcome reduced_tells reduced_of reduced_back
+pub one-outcome : (counts : Counts) (rows pool : List ℕ) {r s : Result Reduction Refusal} {p q : List ℕ}
+    → outcome (tells r) p ≡ reduce_of counts rows pool → outcome (tells s) q ≡ reduce_of counts rows pool → (r ≡ s) × (p ≡ q)
+one-outcome counts rows pool = one_told-outcome

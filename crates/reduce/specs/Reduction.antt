@@ -4,7 +4,7 @@ use Rattle.base_lists.specs.Keep.{keep}
 use Rattle.base_lists.specs.Pool.{pad}
 use Rattle.base_lists.specs.Sorted.{unique_sorted}
 use Rattle.day_rows.specs.Check.{counts_in_range, rows_judged}
-use Rattle.day_rows.specs.Told.{Told, done, refuse, refusal_tells, unless, Outcome, outcome, judged}
+use Rattle.day_rows.specs.Told.{done, refuse, unless, Outcome, outcome, judged}
 use Rattle.day_rows.specs.declared.check.Counts.{Counts}
 use Rattle.day_rows.specs.declared.check.Takes.TheVariants as takes
 use Rattle.reduce_turn.specs.Turn.{kind_of, turned_rows, clash_of}
@@ -12,8 +12,6 @@ use Rattle.reduce_added.specs.Groups.{same_choosers}
 use Rattle.reduce_added.specs.Pairs.{group_pairs, mandatory_pairs}
 use Rattle.reduce_added.specs.Copies.{copies_all}
 use Rattle.reduce.specs.declared.Reduction.{Reduction}
-use Rattle.reduce.specs.declared.Reduced.{Reduced}
-use Rattle.reduce.specs.declared.Reduced.TheVariants as reduced
 
 -- the turned rows, and all that is added to them, before equal rows become one
 unfoldable pub added_to : List (List ℕ) → ℕ → List ℕ → List ℕ
@@ -35,11 +33,6 @@ search_list result = keep (λ number. leb 1 (kind_of number) && leb (kind_of num
 
 unfoldable pub roster_list : List ℕ → List ℕ
 roster_list result = keep (λ number. leb 10 (kind_of number) && leb (kind_of number) 13) result
-
--- what reduce's answer tells: how many rows there are and whether they clash, or the refusal
-abbrev pub reduced_tells : Reduced → Told Reduction
-reduced_tells (reduced.Rows reduction) = done reduction
-reduced_tells (reduced.Refused why) = refusal_tells why
 
 -- the reduction of rows that keep the table: 6 for over 1,024 rows before equals are dropped, the pool then
 -- all zero

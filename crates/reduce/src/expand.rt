@@ -1,26 +1,28 @@
 // The stages of a reduction, which write all its rows before equal ones are dropped.
 ghost use Rattle.std.specs.Prelude.{◌≡◌, length, take, replicate};
-ghost use Rattle.base_lists.specs.steps.Cut.{cut_at, EndsFit};
 ghost use Rattle.reduce_turn.specs.Turn.{turned_rows};
 ghost use Rattle.reduce_turn.specs.steps.Free.{Wrote};
 ghost use Rattle.reduce_added.specs.Groups.{same_choosers};
+ghost use Rattle.reduce_added.specs.steps.Fit.{groups_lent};
 ghost use Rattle.reduce.specs.Reduction.{added_to, expanded};
 ghost use Rattle.reduce.specs.steps.Expand.{Small, PoolLent, PoolFilled};
 
 use day_rows::check::Counts;
+use reduce_added::groups::Grouped;
 use reduce_added::{copies, groups, pairs};
 use reduce_turn::turn::Turned;
 use reduce_turn::{free, turn};
 
 // Writes the turned rows, then each stage's rows into the free end after those already written. The answer is
 // how many they are, or, past the pool's room, a number larger than it.
-fn add_rows(choosers: usize, rows: &[u64], members: &[u16], ends: &[u8], pool: &mut [u64]) -> usize
-    requires { Small choosers rows.now members.now ends.now (length pool.old) }
-    ensures { let groups = cut_at 0 ends.now members.now in
-        PoolFilled pool.old (added_to groups choosers rows.now) result pool.new }
+fn add_rows(choosers: usize, rows: &[u64], groups: &Grouped, pool: &mut [u64]) -> usize
+    requires { let groups = groups.now in
+        Small choosers rows.now groups.members.now groups.ends.now (length pool.old) }
+    ensures { let added = added_to (groups_lent groups.now) choosers rows.now in
+        PoolFilled pool.old added result pool.new }
 {
     let mut total = free::copy(rows, pool);
-    total += pairs::group_pairs(members, ends, &mut pool[total..]);
+    total += pairs::group_pairs(groups, &mut pool[total..]);
     if total > pool.len() {
         return total;
     }
@@ -28,7 +30,7 @@ fn add_rows(choosers: usize, rows: &[u64], members: &[u16], ends: &[u8], pool: &
     if total > pool.len() {
         return total;
     }
-    total + copies::copies(rows, members, ends, &mut pool[total..])
+    total + copies::copies(rows, groups, &mut pool[total..])
 }
 
 // Writes the turned rows, and all that follows from them and their groups; the answer is how many they are.
@@ -42,7 +44,11 @@ fn add_following(counts: Counts, rows: &[u64], pool: &mut [u64]) -> usize
     let members = found.members;
     let ends = found.ends;
     let count = found.count;
-    add_rows(counts.choosers, rows, &members, &ends[..count], pool)
+    let groups = Grouped {
+        members: &members,
+        ends: &ends[..count],
+    };
+    add_rows(counts.choosers, rows, &groups, pool)
 }
 
 // The rows that pairs and copies are written for: the given rows turned, equal ones too, since equal rows

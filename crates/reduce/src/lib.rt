@@ -3,12 +3,12 @@
 #![tactic(auto)]
 
 ghost use Rattle.std.specs.Prelude.{◌≡◌, length};
-ghost use Rattle.day_rows.specs.Told.{outcome};
-ghost use Rattle.reduce.specs.Reduction.{reduced_tells, reduction_of, reduce_of};
+ghost use Rattle.day_rows.specs.Told.{outcome, tells};
+ghost use Rattle.reduce.specs.Reduction.{reduction_of, reduce_of};
 ghost use Rattle.reduce.specs.steps.Expand.{PoolLent};
 
 use day_rows::check;
-use day_rows::check::{Checked, Counts, Takes};
+use day_rows::check::{Counts, Takes};
 use day_rows::refusal::Refusal;
 use reduce_turn::turn;
 
@@ -26,48 +26,38 @@ pub struct Reduction {
     pub clash: bool,
 }
 
-// What reduce answers: the reduction beside the pool, or why there is none.
-#[derive(Clone, Copy)]
-pub enum Reduced {
-    Rows(Reduction),
-    Refused(Refusal),
-}
-
 // Writes the reduced rows of a day into the pool, or refuses: 1, then 2, then 5 with the first bad row, then
 // 6.
-pub fn reduce(counts: Counts, rows: &[u64], pool: &mut [u64]) -> Reduced
+pub fn reduce(counts: Counts, rows: &[u64], pool: &mut [u64]) -> Result<Reduction, Refusal>
     ensures { let before = pool.old in
-        outcome (reduced_tells result) pool.new ≡ reduce_of counts rows.now before }
+        outcome (tells result) pool.new ≡ reduce_of counts rows.now before }
 {
     if !check::counts_in_range(counts, Takes::Given) {
-        return Reduced::Refused(Refusal::Count);
+        return Err(Refusal::Count);
     }
     if rows.len() != counts.rows {
-        return Reduced::Refused(Refusal::Length);
+        return Err(Refusal::Length);
     }
     if pool.len() != MOST_ROWS {
-        return Reduced::Refused(Refusal::Length);
+        return Err(Refusal::Length);
     }
-    let checked = check::check_each_row(counts, Takes::Given, rows);
-    match checked {
-        Checked::Good => reduce_rows(counts, rows, pool),
-        Checked::Refused(refusal) => Reduced::Refused(refusal),
-    }
+    check::check_each_row(counts, Takes::Given, rows)?;
+    reduce_rows(counts, rows, pool)
 }
 
 // The reduction of rows that keep the table: all rows written, then sorted with equal ones once.
-fn reduce_rows(counts: Counts, rows: &[u64], pool: &mut [u64]) -> Reduced
+fn reduce_rows(counts: Counts, rows: &[u64], pool: &mut [u64]) -> Result<Reduction, Refusal>
     requires { PoolLent counts (length rows.now) (length pool.old) }
-    ensures { outcome (reduced_tells result) pool.new ≡ reduction_of counts rows.now }
+    ensures { outcome (tells result) pool.new ≡ reduction_of counts rows.now }
 {
     let total = expand::expand(counts, rows, pool);
     let too_many = total > MOST_ROWS;
     if too_many {
         pool.fill(0);
-        return Reduced::Refused(Refusal::TooMany);
+        return Err(Refusal::TooMany);
     }
     let count = reduce_sort::sort_unique(&mut pool[..total]);
     pool[total..].fill(0);
     let clash = turn::clashes(rows);
-    Reduced::Rows(Reduction { count, clash })
+    Ok(Reduction { count, clash })
 }

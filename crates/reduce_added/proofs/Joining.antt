@@ -8,15 +8,13 @@ use native.Mathlib.Omega.{arith}
 use borrow.Author.Tests.{eq-eqb, ne_eqb}
 use lib.ListN.{length, get_or, drop, drop_of_length-le}
 use lib.Seq.{drop-cons}
+use Rattle.std.specs.Prelude.{Result, Ok, Err}
 use Rattle.day_rows.specs.Row.{row_of}
 use Rattle.day_rows.specs.declared.row.Row.{Row}
 use Rattle.reduce_union_find.specs.declared.UnionFind.{UnionFind}
 use Rattle.reduce_union_find.specs.State.{join_of, join_from, join_all, fresh, JoinedTells}
-use Rattle.day_rows.specs.Told.{done, refusal_tells, outcome}
+use Rattle.day_rows.specs.Told.{done, refusal_tells, outcome, tells}
 use Rattle.day_rows.specs.declared.refusal.Refusal.{Refusal}
-use Rattle.reduce_union_find.specs.declared.Grouped.{Grouped}
-use Rattle.reduce_union_find.specs.declared.Grouped.TheVariants as grouped
-use Rattle.reduce_union_find.specs.Answers.{grouped_tells}
 use Rattle.reduce_union_find.specs.Groups.{groups_of, groups_written, GroupsOutcome}
 use Rattle.reduce_union_find.proofs.Made.{never-refused}
 use Rattle.reduce_union_find.proofs.Grouping.{groups-wrote}
@@ -72,16 +70,16 @@ module _ (choices : ℕ) (rows : List ℕ) where
       ∙ groups-wrote choices (join_all choices (joins rows)) members ends (never-refused choices h (joins rows)) m n
 
   -- the answer of union-find's `groups`, which isn't a refusal
-  module _ {uf : UnionFind} {told : Grouped} (members ends members' ends' : List ℕ) (e : uf ≡ join_all choices (joins rows)) (h : choices ≤ 64) (m : length members ≡ 64) (n : length ends ≡ 64)
-      (q : outcome (grouped_tells told) (members', ends') ≡ groups_of choices uf members ends) where
-    pub groups-told : (count : ℕ) → told ≡ grouped.Groups count → outcome (done count) (members', ends') ≡ groups_written (same_choosers choices rows)
-    groups-told count t = ap (λ (g : Grouped). outcome (grouped_tells g) (members', ends')) (sym t) ∙ q ∙ groups_are members ends e h m n
+  module _ {uf : UnionFind} {told : Result ℕ Refusal} (members ends members' ends' : List ℕ) (e : uf ≡ join_all choices (joins rows)) (h : choices ≤ 64) (m : length members ≡ 64) (n : length ends ≡ 64)
+      (q : outcome (tells told) (members', ends') ≡ groups_of choices uf members ends) where
+    pub groups-told : (count : ℕ) → told ≡ Ok count → outcome (done count) (members', ends') ≡ groups_written (same_choosers choices rows)
+    groups-told count t = ap (λ (g : Result ℕ Refusal). outcome (tells g) (members', ends')) (sym t) ∙ q ∙ groups_are members ends e h m n
 
-    pub groups_unrefused : (why : Refusal) → told ≡ grouped.Refused why → ⊥
+    pub groups_unrefused : (why : Refusal) → told ≡ Err why → ⊥
     unfolding groups_written
     groups_unrefused why t =
         let w : outcome (refusal_tells why) (members', ends') ≡ groups_written (same_choosers choices rows) =
-        ap (λ (g : Grouped). outcome (grouped_tells g) (members', ends')) (sym t) ∙ q ∙ groups_are members ends e h m n in
+        ap (λ (g : Result ℕ Refusal). outcome (tells g) (members', ends')) (sym t) ∙ q ∙ groups_are members ends e h m n in
         let a : refusal_tells why ≡ done (length (same_choosers choices rows)) = ap (λ (g : GroupsOutcome). g.answer) w in
         let z : ◌≡◌ {A = ℕ} 0 1 = cc in
         absurd (omega arith)

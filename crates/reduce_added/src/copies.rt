@@ -1,14 +1,13 @@
 // The copies of rows: 'for each row of kind 11 or 12, the same row for every other member of its choice's
 // group.'
-ghost use Rattle.std.specs.Prelude.{◌≡◌, eqb, length};
+ghost use Rattle.std.specs.Prelude.{◌≡◌, eqb};
 ghost use mathlib.Core.List.{flat_map};
 ghost use Rattle.base_lists.specs.Keep.{any_of};
-ghost use Rattle.base_lists.specs.steps.Cut.{cut_at, EndsFit};
 ghost use Rattle.reduce_turn.specs.steps.Free.{Wrote, Countable};
 ghost use Rattle.reduce_added.specs.Copies.{copy_to, copies_in, is_copied, copies_of, copies_all};
-ghost use Rattle.reduce_added.specs.steps.Fit.{copies_for};
+ghost use Rattle.reduce_added.specs.steps.Fit.{groups_lent, Lie, copies_for};
 
-use super::groups::groups_fit;
+use super::groups::{Grouped, groups_fit};
 use day_rows::kind::Kind;
 use day_rows::number::{Choice, Chooser};
 use day_rows::row::Row;
@@ -30,7 +29,7 @@ fn copy_to(row: Row, member: u16, free: &mut [u64], at: usize) -> usize
         return at;
     }
     let copy = Row::chooser_choice(row.kind, Chooser(row.left), Choice(member));
-    free::put(free, at, copy.number());
+    free::put(free, at, u64::from(copy));
     at + 1
 }
 
@@ -50,15 +49,15 @@ fn copies_in(row: Row, group: &[u16], free: &mut [u64], from: usize) -> usize
 }
 
 // Writes the copies of one row of kind 11 or 12; the answer is the place after them.
-fn copies_of(row: Row, members: &[u16], ends: &[u8], free: &mut [u64], from: usize) -> usize
-    requires { let groups = cut_at 0 ends.now members.now in
-        EndsFit 0 ends.now (length members.now) × Countable from (flat_map (copies_in row) groups) }
-    ensures { let groups = cut_at 0 ends.now members.now in
-        Wrote free.old from (flat_map (copies_in row) groups) result free.new }
+fn copies_of(row: Row, groups: &Grouped, free: &mut [u64], from: usize) -> usize
+    requires { Lie groups.now × Countable from (flat_map (copies_in row) (groups_lent groups.now)) }
+    ensures { let copied = flat_map (copies_in row) (groups_lent groups.now) in
+        Wrote free.old from copied result free.new }
 {
+    let members = groups.members;
     let mut at = from;
     let mut start = 0;
-    for byte in ends {
+    for byte in groups.ends {
         let end = usize::from(*byte);
         at = copies_in(row, &members[start..end], free, at);
         start = end;
@@ -74,44 +73,42 @@ fn is_copied(kind: u16) -> bool
 }
 
 // Writes the copies of one row, none for other kinds; the answer is the place after them.
-fn copies_for(number: u64, members: &[u16], ends: &[u8], free: &mut [u64], at: usize) -> usize
-    requires { let groups = cut_at 0 ends.now members.now in
-        EndsFit 0 ends.now (length members.now) × Countable at (copies_of groups number) }
-    ensures { let groups = cut_at 0 ends.now members.now in
-        Wrote free.old at (copies_of groups number) result free.new }
+fn copies_for(number: u64, groups: &Grouped, free: &mut [u64], at: usize) -> usize
+    requires { Lie groups.now × Countable at (copies_of (groups_lent groups.now) number) }
+    ensures { let copied = copies_of (groups_lent groups.now) number in
+        Wrote free.old at copied result free.new }
 {
-    let row = Row::of(number);
+    let row = Row::from(number);
     if !is_copied(row.kind) {
         return at;
     }
-    copies_of(row, members, ends, free, at)
+    copies_of(row, groups, free, at)
 }
 
 // Writes the copies of every row; the answer is how many they are.
-fn write_copies(rows: &[u64], members: &[u16], ends: &[u8], free: &mut [u64]) -> usize
-    requires { let groups = cut_at 0 ends.now members.now in
-        EndsFit 0 ends.now (length members.now) × Countable 0 (copies_all groups rows.now) }
-    ensures { let groups = cut_at 0 ends.now members.now in
-        Wrote free.old 0 (copies_all groups rows.now) result free.new }
+fn write_copies(rows: &[u64], groups: &Grouped, free: &mut [u64]) -> usize
+    requires { Lie groups.now × Countable 0 (copies_all (groups_lent groups.now) rows.now) }
+    ensures { let copied = copies_all (groups_lent groups.now) rows.now in
+        Wrote free.old 0 copied result free.new }
 {
     let mut at = 0;
     for row in rows {
-        at = copies_for(*row, members, ends, free, at);
+        at = copies_for(*row, groups, free, at);
     }
     at
 }
 
 // Writes the copies of every row, none if rows or groups are more than a day has; the answer is how many they
 // are.
-pub fn copies(rows: &[u64], members: &[u16], ends: &[u8], free: &mut [u64]) -> usize
-    ensures { let copied = copies_for members.now ends.now rows.now in
+pub fn copies(rows: &[u64], groups: &Grouped, free: &mut [u64]) -> usize
+    ensures { let copied = copies_for groups.now.members.now groups.now.ends.now rows.now in
         Wrote free.old 0 copied result free.new }
 {
     if 128 < rows.len() {
         return 0;
     }
-    if !groups_fit(members, ends) {
+    if !groups_fit(groups) {
         return 0;
     }
-    write_copies(rows, members, ends, free)
+    write_copies(rows, groups, free)
 }

@@ -8,7 +8,14 @@ ghost use Rattle.reduce_added.specs.steps.Fit.{ends_fit, groups_fit};
 
 use day_rows::kind::Kind;
 use day_rows::row::Row;
-use reduce_union_find::{Grouped, UnionFind};
+use reduce_union_find::UnionFind;
+
+// Members by group, as they are lent: one group after another, and where each group ends.
+#[derive(Clone, Copy)]
+pub struct Grouped<'a> {
+    pub members: &'a [u16],
+    pub ends: &'a [u8],
+}
 
 // The groups one after another, and where each of so many ends.
 #[derive(Clone, Copy)]
@@ -22,7 +29,7 @@ pub struct SameChoosers {
 fn join_one(choices: usize, state: UnionFind, number: u64) -> UnionFind
     ensures { result ≡ join_from choices state (join_one number) }
 {
-    let row = Row::of(number);
+    let row = Row::from(number);
     if row.kind != Kind::CHOICES_HAVE_SAME_CHOOSERS {
         return state;
     }
@@ -50,7 +57,7 @@ fn write_groups(choices: usize, rows: &[u64], members: &mut [u8], ends: &mut [u8
         outcome (done result) (members.new, ends.new) ≡ groups_written groups }
 {
     let state = join_rows(choices, rows);
-    let Grouped::Groups(count) = state.groups(choices, members, ends) else {
+    let Ok(count) = state.groups(choices, members, ends) else {
         return 0;
     };
     count
@@ -104,14 +111,14 @@ fn ends_fit(ends: &[u8], size: usize) -> bool
 
 // Whether groups lie in their pools as those of a day do: what is written for them is then a number that
 // fits.
-pub fn groups_fit(members: &[u16], ends: &[u8]) -> bool
-    ensures { result ≡ groups_fit members.now ends.now }
+pub fn groups_fit(groups: &Grouped) -> bool
+    ensures { let groups = groups.now in result ≡ groups_fit groups.members.now groups.ends.now }
 {
-    if 64 < members.len() {
+    if 64 < groups.members.len() {
         return false;
     }
-    if 64 < ends.len() {
+    if 64 < groups.ends.len() {
         return false;
     }
-    ends_fit(ends, members.len())
+    ends_fit(groups.ends, groups.members.len())
 }

@@ -1,13 +1,13 @@
 // The pairs: 'a kind 4 row for each pair i < j of positions in each same-choosers group (kind 10), and in
 // each chooser's list of kind 11 choices'.
 ghost use Rattle.std.specs.Prelude.{◌≡◌, map, ◌+◌, ◌≤◌, ◌<◌, length, get_or};
-ghost use Rattle.base_lists.specs.steps.Cut.{cut_at, EndsFit};
 ghost use Rattle.reduce_turn.specs.steps.Free.{Wrote, Countable};
 ghost use Rattle.reduce_added.specs.Pairs.{pair_row, pairs_of, group_pairs, mandatory_one, mandatory, mandatory_pairs};
+ghost use Rattle.reduce_added.specs.steps.Fit.{groups_lent, Lie};
 ghost use Rattle.reduce_added.specs.steps.Limits.{pairs_in_groups, pairs_of_choosers};
 ghost use Rattle.reduce_added.specs.steps.Marks.{MarkedOne, Marked};
 
-use super::groups::groups_fit;
+use super::groups::{Grouped, groups_fit};
 use day_rows::kind::Kind;
 use day_rows::row::Row;
 use reduce_turn::free;
@@ -20,7 +20,7 @@ fn pairs_with(left: u16, list: &[u16], free: &mut [u64], from: usize) -> usize
 {
     let mut at = from;
     for right in list {
-        free::put(free, at, pair_row(left, *right).number());
+        free::put(free, at, u64::from(pair_row(left, *right)));
         at += 1;
     }
     at
@@ -39,15 +39,15 @@ fn pairs_of(list: &[u16], free: &mut [u64], from: usize) -> usize
 }
 
 // Writes the pairs of each group; the answer is how many they are.
-fn write_group_pairs(members: &[u16], ends: &[u8], free: &mut [u64]) -> usize
-    requires { let groups = cut_at 0 ends.now members.now in
-        EndsFit 0 ends.now (length members.now) × Countable 0 (group_pairs groups) }
-    ensures { let groups = cut_at 0 ends.now members.now in
-        Wrote free.old 0 (group_pairs groups) result free.new }
+fn write_group_pairs(groups: &Grouped, free: &mut [u64]) -> usize
+    requires { Lie groups.now × Countable 0 (group_pairs (groups_lent groups.now)) }
+    ensures { let pairs = group_pairs (groups_lent groups.now) in
+        Wrote free.old 0 pairs result free.new }
 {
+    let members = groups.members;
     let mut at = 0;
     let mut start = 0;
-    for byte in ends {
+    for byte in groups.ends {
         let end = usize::from(*byte);
         at = pairs_of(&members[start..end], free, at);
         start = end;
@@ -57,14 +57,14 @@ fn write_group_pairs(members: &[u16], ends: &[u8], free: &mut [u64]) -> usize
 
 // Writes the pairs of each group, none if the groups are more than a day has; the answer is how many they
 // are.
-pub fn group_pairs(members: &[u16], ends: &[u8], free: &mut [u64]) -> usize
-    ensures { let pairs = pairs_in_groups members.now ends.now in
+pub fn group_pairs(groups: &Grouped, free: &mut [u64]) -> usize
+    ensures { let pairs = pairs_in_groups groups.now.members.now groups.now.ends.now in
         Wrote free.old 0 pairs result free.new }
 {
-    if !groups_fit(members, ends) {
+    if !groups_fit(groups) {
         return 0;
     }
-    write_group_pairs(members, ends, free)
+    write_group_pairs(groups, free)
 }
 
 // Writes the choice of a row into a chooser's list, if it is of kind 11 and the chooser's; the answer is the
@@ -73,7 +73,7 @@ fn list_one(number: u64, chooser: usize, list: &mut [u16], at: usize) -> usize
     requires { at + length (mandatory_one chooser number) ≤ length list.old }
     ensures { Wrote list.old at (mandatory_one chooser number) result list.new }
 {
-    let row = Row::of(number);
+    let row = Row::from(number);
     if row.kind != Kind::CHOOSER_IS_IN_CHOICE {
         return at;
     }
@@ -101,7 +101,7 @@ fn mandatory(rows: &[u64], chooser: usize, list: &mut [u16]) -> usize
 fn mark_one(number: u64, named: &mut [u8])
     ensures { MarkedOne number named.old named.new }
 {
-    let row = Row::of(number);
+    let row = Row::from(number);
     if row.kind != Kind::CHOOSER_IS_IN_CHOICE {
         return;
     }

@@ -21,7 +21,7 @@ fn from_slot(kind: u16, row: Row) -> u64
 {
     let slot = Slot(row.left);
     let choice = Choice(row.right);
-    Row::choice_slot(kind, choice, slot).number()
+    u64::from(Row::choice_slot(kind, choice, slot))
 }
 
 // '14 and 15 become 11 and 12': the choice and the chooser change ends.
@@ -30,14 +30,14 @@ fn from_choice(kind: u16, row: Row) -> u64
 {
     let choice = Choice(row.left);
     let chooser = Chooser(row.right);
-    Row::chooser_choice(kind, chooser, choice).number()
+    u64::from(Row::chooser_choice(kind, chooser, choice))
 }
 
 // A row turned, of kinds 7, 8, 14 and 15; a row of every other kind stays as it is.
 fn turned_row(number: u64) -> u64
     ensures { result ≡ turned_row number }
 {
-    let row = Row::of(number);
+    let row = Row::from(number);
     let kind = row.kind;
     match kind {
         Kind::SLOT_CONTAINS_CHOICE => from_slot(Kind::CHOICE_IS_IN_SLOT, row),
@@ -53,7 +53,7 @@ fn turn_one(number: u64, free: &mut [u64], at: usize) -> usize
     requires { Countable at (turned_one number) }
     ensures { Wrote free.old at (turned_one number) result free.new }
 {
-    if Row::of(number).kind == Kind::SLOTS_HAVE_SAME_CHOICES {
+    if Row::from(number).kind == Kind::SLOTS_HAVE_SAME_CHOICES {
         return at;
     }
     free::put(free, at, turned_row(number));
@@ -94,7 +94,7 @@ pub fn turn(rows: &[u64]) -> Turned
 fn clashes_at(number: u64) -> bool
     ensures { result ≡ clashes_at number }
 {
-    let row = Row::of(number);
+    let row = Row::from(number);
     if row.kind != Kind::SLOTS_HAVE_SAME_CHOICES {
         return false;
     }

@@ -6,9 +6,8 @@ ghost use Rattle.std.specs.Prelude.{◌≡◌, ℕ, ◌+◌, ◌-◌, ◌≤◌,
 ghost use Rattle.std.proofs.lemmas.List.Edits.{sets};
 ghost use Rattle.base_lists.specs.Group.{class_of, classes};
 ghost use Rattle.base_lists.specs.Pool.{pad};
-ghost use Rattle.day_rows.specs.Told.{done, outcome};
-ghost use Rattle.reduce_union_find.specs.Answers.{found_tells, grouped_tells};
-ghost use Rattle.reduce_union_find.specs.State.{fresh, state, sound_at, taken, climb, find_of, joined_tells, refused_join, linked, hung, join_of};
+ghost use Rattle.day_rows.specs.Told.{done, outcome, tells};
+ghost use Rattle.reduce_union_find.specs.State.{fresh, sound_at, taken, climb, find_of, joined_tells, refused_join, linked, hung, join_of};
 ghost use Rattle.reduce_union_find.specs.steps.Climbs.{Ends, Climbs, Fits};
 ghost use Rattle.reduce_union_find.specs.Groups.{groups_written, groups_of};
 
@@ -24,25 +23,11 @@ pub struct UnionFind {
     pub heights: [u8; 64],
 }
 
-// What find answers: the root of an element.
-#[derive(Clone, Copy)]
-pub enum Found {
-    Root(usize),
-    Refused(Refusal),
-}
-
 // What join hands back: the root that both elements now have, and the record.
 #[derive(Clone, Copy)]
 pub struct Joined {
-    pub found: Found,
+    pub found: Result<usize, Refusal>,
     pub state: UnionFind,
-}
-
-// What groups answers: how many groups it wrote.
-#[derive(Clone, Copy)]
-pub enum Grouped {
-    Groups(usize),
-    Refused(Refusal),
 }
 
 impl UnionFind {
@@ -57,23 +42,23 @@ impl UnionFind {
     }
 
     // The root of an element; 1 for a bad record or element.
-    pub fn find(self, choices: usize, element: usize) -> Found
-        ensures { found_tells result ≡ find_of choices self element }
+    pub fn find(self, choices: usize, element: usize) -> Result<usize, Refusal>
+        ensures { tells result ≡ find_of choices self element }
     {
-        if !is_taken(&self.parents, &self.heights, choices) {
-            return Found::Refused(Refusal::Count);
+        if !self.is_taken(choices) {
+            return Err(Refusal::Count);
         }
         if element >= choices {
-            return Found::Refused(Refusal::Count);
+            return Err(Refusal::Count);
         }
-        Found::Root(climb(&self.parents, element, 0))
+        Ok(climb(&self.parents, element, 0))
     }
 
     // Both elements get one root, which comes back with the record; a refusal leaves the record as it was.
     pub fn join(self, choices: usize, left: usize, right: usize) -> Joined
-        ensures { joined_tells (found_tells result.found) result.state ≡ join_of choices self left right }
+        ensures { joined_tells (tells result.found) result.state ≡ join_of choices self left right }
     {
-        if !is_taken(&self.parents, &self.heights, choices) {
+        if !self.is_taken(choices) {
             return self.refused();
         }
         if left >= choices {
@@ -88,28 +73,33 @@ impl UnionFind {
     }
 
     // The classes of equal root, one after another, and where each ends; both pools are 64 long.
-    pub fn groups(self, choices: usize, members: &mut [u8], ends: &mut [u8]) -> Grouped
-        ensures { outcome (grouped_tells result) (members.new, ends.new)
+    pub fn groups(
+        self,
+        choices: usize,
+        members: &mut [u8],
+        ends: &mut [u8],
+    ) -> Result<usize, Refusal>
+        ensures { outcome (tells result) (members.new, ends.new)
             ≡ groups_of choices self members.old ends.old }
     {
-        if !is_taken(&self.parents, &self.heights, choices) {
-            return Grouped::Refused(Refusal::Count);
+        if !self.is_taken(choices) {
+            return Err(Refusal::Count);
         }
         if members.len() != 64 {
-            return Grouped::Refused(Refusal::Length);
+            return Err(Refusal::Length);
         }
         if ends.len() != 64 {
-            return Grouped::Refused(Refusal::Length);
+            return Err(Refusal::Length);
         }
-        Grouped::Groups(write_all(&self.parents, choices, members, ends))
+        Ok(write_all(&self.parents, choices, members, ends))
     }
 
     // A join that is refused: 1, and the record as it was.
     fn refused(self) -> Joined
-        ensures { joined_tells (found_tells result.found) result.state ≡ refused_join self }
+        ensures { joined_tells (tells result.found) result.state ≡ refused_join self }
     {
         Joined {
-            found: Found::Refused(Refusal::Count),
+            found: Err(Refusal::Count),
             state: self,
         }
     }
@@ -117,22 +107,22 @@ impl UnionFind {
     // Two roots, the left element's and the right one's, become one.
     fn link(self, left: usize, right: usize) -> Joined
         requires { Fits self left right }
-        ensures { joined_tells (found_tells result.found) result.state ≡ linked self left right }
+        ensures { joined_tells (tells result.found) result.state ≡ linked self left right }
     {
         if left == right {
             return Joined {
-                found: Found::Root(right),
+                found: Ok(right),
                 state: self,
             };
         }
         if is_higher(self.heights[left], self.heights[right]) {
             return Joined {
-                found: Found::Root(left),
+                found: Ok(left),
                 state: self.hang(right, left),
             };
         }
         Joined {
-            found: Found::Root(right),
+            found: Ok(right),
             state: self.hang(left, right),
         }
     }
@@ -149,42 +139,41 @@ impl UnionFind {
         state.heights[higher] = height;
         state
     }
-}
 
-// Whether a record is taken: C is in its range, and each of the first C entries is sound.
-fn is_taken<'a>(parents: &'a [u8], heights: &'a [u8], choices: usize) -> bool
-    requires { (length parents.now ≡ 64) × (length heights.now ≡ 64) }
-    ensures { result ≡ taken choices (state parents.now heights.now) }
-{
-    if choices > 64 {
-        return false;
-    }
-    for i in 0..choices {
-        if !is_sound(parents, heights, choices, i) {
+    // Whether a record is taken: C is in its range, and each of the first C entries is sound.
+    fn is_taken(&self, choices: usize) -> bool
+        ensures { result ≡ taken choices self.now }
+    {
+        if choices > 64 {
             return false;
         }
+        for i in 0..choices {
+            if !self.is_sound(choices, i) {
+                return false;
+            }
+        }
+        true
     }
-    true
-}
 
-// Whether an entry is sound: its height is at most 64, and it has no parent or one that is an element of
-// larger height.
-fn is_sound<'a>(parents: &'a [u8], heights: &'a [u8], choices: usize, i: usize) -> bool
-    requires { (length parents.now ≡ 64) × (length heights.now ≡ 64) × (i < choices) × (choices ≤ 64) }
-    ensures { result ≡ sound_at choices (state parents.now heights.now) i }
-{
-    let height = heights[i];
-    if height > 64 {
-        return false;
+    // Whether an entry is sound: its height is at most 64, and it has no parent or one that is an element of
+    // larger height.
+    fn is_sound(&self, choices: usize, i: usize) -> bool
+        requires { (i < choices) × (choices ≤ 64) }
+        ensures { result ≡ sound_at choices self.now i }
+    {
+        let height = self.heights[i];
+        if height > 64 {
+            return false;
+        }
+        let parent = usize::from(self.parents[i]);
+        if parent == 255 {
+            return true;
+        }
+        if parent >= choices {
+            return false;
+        }
+        height < self.heights[parent]
     }
-    let parent = usize::from(parents[i]);
-    if parent == 255 {
-        return true;
-    }
-    if parent >= choices {
-        return false;
-    }
-    height < heights[parent]
 }
 
 // 'The climb from an element to its root calls itself on the parent'; 64 minus the steps climbed falls.

@@ -1,8 +1,17 @@
 -- The groups as they lie in their pools: within the limits of a day, so that what is written for them can be
 -- counted.
 use Rattle.std.specs.Prelude.{Bool, true, ◌&&◌, cond, List, [], ◌∷◌, ℕ, leb, length}
-use Rattle.base_lists.specs.steps.Cut.{cut_at}
+use Rattle.base_lists.specs.steps.Cut.{cut_at, EndsFit}
 use Rattle.reduce_added.specs.Copies.{copies_all}
+use Rattle.reduce_added.specs.declared.groups.Grouped as lent
+
+-- the groups that a call is lent
+abbrev pub groups_lent : lent.Grouped → List (List ℕ)
+groups_lent groups = cut_at 0 groups.ends.now groups.members.now
+
+-- the ends are ends of the members: they don't fall, and none is past them
+abbrev pub Lie : lent.Grouped → Type 0
+Lie groups = EndsFit 0 groups.ends.now (length groups.members.now)
 
 -- a test of the groups' ends: they don't fall, and none is past `size`
 unfoldable pub ends_fit : ℕ → List ℕ → ℕ → Bool

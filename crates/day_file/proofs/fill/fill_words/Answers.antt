@@ -4,4 +4,4 @@ use Rattle.day_file.proofs.fill.fill_words.Goals as goal
 
 pub returns : goal.returns
 returns c =
-    cleared-past _ _ _ _ _ c.pool-1.given c.requires.fact_1 c.put_words.ensures (c.fill.ensures.after (λ _ e. e))
+    cleared-past _ _ _ _ _ c.pool-1.given c.requires.room c.put_words.ensures (c.fill.ensures.after (λ _ e. e))

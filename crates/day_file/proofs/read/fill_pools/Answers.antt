@@ -5,34 +5,34 @@ use Rattle.day_file.proofs.read.fill_pools.Goals as goal
 
 pub fill_words-requires : goal.fill_words-requires
 fill_words-requires c =
-    let a = mins_ask (within c.requires.fact_1 c.requires.fact_2 c.places-places.ensures) (full _ _ _ _ _ _ c.requires.fact_3).mins-full in
-    record { fact_1 = a.0; fact_2 = a.1 }
+    let a = mins_ask (within c.requires.ranges c.requires.end c.places-places.ensures) (full _ _ _ _ _ _ c.requires.full).mins-full in
+    record { room = a.0; within = a.1 }
 
 pub fill_words-requires-2 : goal.fill_words-requires-2
 fill_words-requires-2 c =
-    let a = maxs_ask (within c.requires.fact_1 c.requires.fact_2 c.places-places.ensures) (full _ _ _ _ _ _ c.requires.fact_3).maxs-full in
-    record { fact_1 = a.0; fact_2 = a.1 }
+    let a = maxs_ask (within c.requires.ranges c.requires.end c.places-places.ensures) (full _ _ _ _ _ _ c.requires.full).maxs-full in
+    record { room = a.0; within = a.1 }
 
 pub fill_optional-requires : goal.fill_optional-requires
 fill_optional-requires c =
-    let a = optional_ask (within c.requires.fact_1 c.requires.fact_2 c.places-places.ensures) (full _ _ _ _ _ _ c.requires.fact_3).optional-full in
-    record { fact_1 = a.0; fact_2 = a.1 }
+    let a = optional_ask (within c.requires.ranges c.requires.end c.places-places.ensures) (full _ _ _ _ _ _ c.requires.full).optional-full in
+    record { room = a.0; within = a.1 }
 
 pub fill_words-requires-3 : goal.fill_words-requires-3
 fill_words-requires-3 c =
-    let a = levels_ask (within c.requires.fact_1 c.requires.fact_2 c.places-places.ensures) (full _ _ _ _ _ _ c.requires.fact_3).levels-full in
-    record { fact_1 = a.0; fact_2 = a.1 }
+    let a = levels_ask (within c.requires.ranges c.requires.end c.places-places.ensures) (full _ _ _ _ _ _ c.requires.full).levels-full in
+    record { room = a.0; within = a.1 }
 
 pub fill_words-requires-4 : goal.fill_words-requires-4
 fill_words-requires-4 c =
-    let a = preferences_ask (within c.requires.fact_1 c.requires.fact_2 c.places-places.ensures) (full _ _ _ _ _ _ c.requires.fact_3).preferences-full in
-    record { fact_1 = a.0; fact_2 = a.1 }
+    let a = preferences_ask (within c.requires.ranges c.requires.end c.places-places.ensures) (full _ _ _ _ _ _ c.requires.full).preferences-full in
+    record { room = a.0; within = a.1 }
 
 pub fill_rows-requires : goal.fill_rows-requires
 fill_rows-requires c =
-    let a = rows_ask (within c.requires.fact_1 c.requires.fact_2 c.places-places.ensures) (full _ _ _ _ _ _ c.requires.fact_3).rows-full in
-    record { fact_1 = a.0; fact_2 = a.1 }
+    let a = rows_ask (within c.requires.ranges c.requires.end c.places-places.ensures) (full _ _ _ _ _ _ c.requires.full).rows-full in
+    record { room = a.0; within = a.1 }
 
 pub returns : goal.returns
 returns c =
-    filled _ _ c.places-places.ensures (full _ _ _ _ _ _ c.requires.fact_3) c.fill_words.ensures c.fill_words-2.ensures c.fill_optional.ensures c.fill_words-3.ensures c.fill_words-4.ensures c.fill_rows.ensures
+    filled _ _ c.places-places.ensures (full _ _ _ _ _ _ c.requires.full) c.fill_words.ensures c.fill_words-2.ensures c.fill_optional.ensures c.fill_words-3.ensures c.fill_words-4.ensures c.fill_rows.ensures

@@ -14,13 +14,13 @@ returns-then-not-levels_in c =
 
 pub returns-then-not-preferences_in : goal.returns-then-not-preferences_in
 returns-then-not-preferences_in c =
-    body_preference _ _ c.places-places.ensures c.optional_in.ensures (c.if-not-optional_in.false) c.levels_in.ensures (c.if-not-levels_in.false) (within c.requires.fact_1 c.requires.fact_2 c.places-places.ensures) c.word_at-last.ensures c.preferences_in.ensures (c.if-not-preferences_in.true)
+    body_preference _ _ c.places-places.ensures c.optional_in.ensures (c.if-not-optional_in.false) c.levels_in.ensures (c.if-not-levels_in.false) (within c.requires.ranges c.requires.end c.places-places.ensures) c.word_at-last.ensures c.preferences_in.ensures (c.if-not-preferences_in.true)
 
 pub rows_in-requires : goal.rows_in-requires
 rows_in-requires c =
-    let a = rows_ask (within c.requires.fact_1 c.requires.fact_2 c.places-places.ensures) refl in
-    record { fact_1 = a.0; fact_2 = a.1 }
+    let a = rows_ask (within c.requires.ranges c.requires.end c.places-places.ensures) refl in
+    record { few = a.0; within = a.1 }
 
 pub returns : goal.returns
 returns c =
-    body_rows _ _ c.places-places.ensures c.optional_in.ensures (c.if-not-optional_in.false) c.levels_in.ensures (c.if-not-levels_in.false) (within c.requires.fact_1 c.requires.fact_2 c.places-places.ensures) c.word_at-last.ensures c.preferences_in.ensures (c.if-not-preferences_in.false) c.for_rows.ensures c.rows_in.ensures
+    body_rows _ _ c.places-places.ensures c.optional_in.ensures (c.if-not-optional_in.false) c.levels_in.ensures (c.if-not-levels_in.false) (within c.requires.ranges c.requires.end c.places-places.ensures) c.word_at-last.ensures c.preferences_in.ensures (c.if-not-preferences_in.false) c.for_rows.ensures c.rows_in.ensures

@@ -7,8 +7,8 @@ pub slice_bounds-ends-end : goal.slice_bounds-ends-end
 slice_bounds-ends-end c =
     omega (arith, count_most _ _ c.requires.choices_in _ _ _ c.groups-found.ensures, ends-length _ _ c.requires.choices_in _ _ _ c.groups-found.ensures)
 
-pub slice_bounds-add_rows-end-2 : goal.slice_bounds-add_rows-end-2
-slice_bounds-add_rows-end-2 c =
+pub slice_bounds-groups-end-2 : goal.slice_bounds-groups-end-2
+slice_bounds-groups-end-2 c =
     count-is _ _ c.requires.choices_in _ _ _ c.groups-found.ensures
 
 pub add_rows-requires : goal.add_rows-requires

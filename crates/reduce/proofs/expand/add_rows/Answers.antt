@@ -15,7 +15,7 @@ overflow_add-total c =
 pub returns-then-total-pool : goal.returns-then-total-pool
 returns-then-total-pool c =
     let s = c in
-    let g = cut_at 0 s.args.ends.now s.args.members.now in
+    let g = cut_at 0 s.args.groups.now.ends.now s.args.groups.now.members.now in
     let l = s.requires in
     let w = stage s.args.pool.now _ _ s.args.rows.now (group_pairs g) (pairs_plain l) (omega (arith, c.copy-total.ensures.0)) c.copy-total.ensures c.group_pairs-total.ensures in
     filled_early _ (s.args.rows.now ++ group_pairs g) (mandatory_pairs s.args.rows.now s.args.choosers ++ copies_all g s.args.rows.now) _ _ l.pool-is (added-two g s.args.choosers s.args.rows.now) w (omega (arith, c.if-total-pool.true, c.pool-2-1.given.1, c.pool-1.given))
@@ -27,7 +27,7 @@ overflow_add-total-2 c =
 pub returns-then-total-pool-2 : goal.returns-then-total-pool-2
 returns-then-total-pool-2 c =
     let s = c in
-    let g = cut_at 0 s.args.ends.now s.args.members.now in
+    let g = cut_at 0 s.args.groups.now.ends.now s.args.groups.now.members.now in
     let l = s.requires in
     let w = stage s.args.pool.now _ _ s.args.rows.now (group_pairs g) (pairs_plain l) (omega (arith, c.copy-total.ensures.0)) c.copy-total.ensures c.group_pairs-total.ensures in
     let v = stage s.args.pool.now _ _ (s.args.rows.now ++ group_pairs g) (mandatory_pairs s.args.rows.now s.args.choosers) (choosers_plain l) (omega (arith, c.if-total-pool.false, c.pool-2-1.given.1, c.pool-1.given)) w c.mandatory_pairs-total.ensures in
@@ -40,7 +40,7 @@ overflow_add-result c =
 pub returns : goal.returns
 returns c =
     let s = c in
-    let g = cut_at 0 s.args.ends.now s.args.members.now in
+    let g = cut_at 0 s.args.groups.now.ends.now s.args.groups.now.members.now in
     let l = s.requires in
     let w = stage s.args.pool.now _ _ s.args.rows.now (group_pairs g) (pairs_plain l) (omega (arith, c.copy-total.ensures.0)) c.copy-total.ensures c.group_pairs-total.ensures in
     let v = stage s.args.pool.now _ _ (s.args.rows.now ++ group_pairs g) (mandatory_pairs s.args.rows.now s.args.choosers) (choosers_plain l) (omega (arith, c.if-total-pool.false, c.pool-2-1.given.1, c.pool-1.given)) w c.mandatory_pairs-total.ensures in

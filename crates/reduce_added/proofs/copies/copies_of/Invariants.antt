@@ -5,4 +5,4 @@ use Rattle.reduce_added.specs.Copies.{copies_in}
 use Rattle.reduce_added.proofs.copies.copies_of.Given as goal
 
 abbrev pub invariant-loop-byte : goal.invariant-loop-byte
-invariant-loop-byte l = Cuts (copies_in l.row) l.ends l.members l.initial.free l.from l.free l.at l.start l.byte-index
+invariant-loop-byte l = Cuts (copies_in l.row) l.groups.ends.now l.members l.initial.free l.from l.free l.at l.start l.byte-index

@@ -7,4 +7,4 @@ pub returns-then-member-row : goal.returns-then-member-row
 returns-then-member-row c = stored-none _ _ (copy_own _ _ c.if-member-row.true)
 
 pub returns : goal.returns
-returns c = stored_one _ _ _ (copy_other _ _ c.if-member-row.false c.chooser_choice-copy.ensures c.number.ensures) c.put.ensures
+returns c = stored_one _ _ _ (copy_other _ _ c.if-member-row.false c.chooser_choice-copy.ensures c.from.ensures) c.put.ensures

@@ -3,12 +3,12 @@ use mathlib.Core.Path.{◌∙◌}
 use Rattle.reduce_added.proofs.Fitting.{many-members, many-groups, ends_decide}
 use Rattle.reduce_added.proofs.groups.groups_fit.Goals as goal
 
-pub returns-then-members-gt64 : goal.returns-then-members-gt64
-returns-then-members-gt64 c = many-members _ _ c.if-members-gt64.true
+pub returns-then-groups-gt64 : goal.returns-then-groups-gt64
+returns-then-groups-gt64 c = many-members _ _ c.if-groups-gt64.true
 
-pub returns-then-ends-gt64 : goal.returns-then-ends-gt64
-returns-then-ends-gt64 c = many-groups _ _ c.if-members-gt64.false c.if-ends-gt64.true
+pub returns-then-groups-gt64-2 : goal.returns-then-groups-gt64-2
+returns-then-groups-gt64-2 c = many-groups _ _ c.if-groups-gt64.false c.if-groups-gt64-2.true
 
 pub returns : goal.returns
 returns c =
-    c.ends_fit.ensures ∙ ends_decide _ _ c.if-members-gt64.false c.if-ends-gt64.false
+    c.ends_fit.ensures ∙ ends_decide _ _ c.if-groups-gt64.false c.if-groups-gt64-2.false

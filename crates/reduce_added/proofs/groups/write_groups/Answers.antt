@@ -6,4 +6,4 @@ pub returns-in_default : goal.returns-in_default
 returns-in_default c = absurd (groups_unrefused _ _ _ _ _ _ c.join_rows-state.ensures c.requires.0 c.requires.1 c.requires.2 c.groups.ensures _ c.in_default.is)
 
 pub returns : goal.returns
-returns c = groups-told _ _ _ _ _ _ c.join_rows-state.ensures c.requires.0 c.requires.1 c.requires.2 c.groups.ensures _ c.in-Groups.is
+returns c = groups-told _ _ _ _ _ _ c.join_rows-state.ensures c.requires.0 c.requires.1 c.requires.2 c.groups.ensures _ c.in-Ok.is

@@ -8,4 +8,4 @@ use Rattle.reduce_added.proofs.pairs.pairs_with.Goals as goal
 pub loop-right-preserved : goal.loop-right-preserved
 loop-right-preserved c =
     let l = c.loop-right in
-    stores_one _ _ (map_at _ _ l.right-index 0 c.loop-right-test.true) l.invariant (c.put.ensures ∙ ap (set l.free l.at) (pair-row-is _ _ c.pair_row.ensures c.number.ensures))
+    stores_one _ _ (map_at _ _ l.right-index 0 c.loop-right-test.true) l.invariant (c.put.ensures ∙ ap (set l.free l.at) (pair-row-is _ _ c.pair_row.ensures c.from.ensures))

@@ -5,4 +5,4 @@ use Rattle.reduce_added.specs.Pairs.{pairs_of}
 use Rattle.reduce_added.proofs.pairs.write_group_pairs.Given as goal
 
 abbrev pub invariant-loop-byte : goal.invariant-loop-byte
-invariant-loop-byte l = Cuts pairs_of l.ends l.members l.initial.free 0 l.free l.at l.start l.byte-index
+invariant-loop-byte l = Cuts pairs_of l.groups.ends.now l.members l.initial.free 0 l.free l.at l.start l.byte-index

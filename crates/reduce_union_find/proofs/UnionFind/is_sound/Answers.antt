@@ -1,7 +1,7 @@
 -- Each way out of `is_sound` is a law of `Entry`.
 use mathlib.Core.Path.{sym, ◌∙◌}
 use Rattle.reduce_union_find.proofs.Entry.{sound-high, sound-root, sound-out, sound-up}
-use Rattle.reduce_union_find.proofs.is_sound.Goals as goal
+use Rattle.reduce_union_find.proofs.UnionFind.is_sound.Goals as goal
 
 pub returns-then-height-gt64 : goal.returns-then-height-gt64
 returns-then-height-gt64 c = sym (sound-high _ _ _ c.if-height-gt64.true)

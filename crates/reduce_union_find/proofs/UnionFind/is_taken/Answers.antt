@@ -3,7 +3,7 @@ use native.Mathlib.Omega.{arith}
 use Rattle.base_lists.specs.Below.{all_below}
 use Rattle.base_lists.proofs.Below.{all_more}
 use Rattle.reduce_union_find.proofs.Entry.{taken-over, taken_unsound, taken-sound}
-use Rattle.reduce_union_find.proofs.is_taken.Goals as goal
+use Rattle.reduce_union_find.proofs.UnionFind.is_taken.Goals as goal
 
 pub returns-then-choices-gt64 : goal.returns-then-choices-gt64
 returns-then-choices-gt64 c = sym (taken-over _ _ c.if-choices-gt64.true)
