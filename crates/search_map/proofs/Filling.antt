@@ -17,11 +17,9 @@ use Rattle.base_lists.proofs.Flat.{list-more, join_more, length-list}
 use Rattle.base_lists.proofs.Group.{length-keep}
 use Rattle.base_lists.proofs.Pad.{pad_nil, sets_snoc}
 use Rattle.base_lists.proofs.Stores.{sets-append, sets-zeros}
-use Rattle.day_rows.specs.Check.{counts_in_range, rows_judged, checked_tells}
+use Rattle.day_rows.specs.Check.{counts_in_range, rows_judged}
 use Rattle.day_rows.specs.Row.{row_of}
 use Rattle.day_rows.specs.Told.{Told, done, Verdict, good, refuse, refusal_tells, unless, Outcome, outcome, judged}
-use Rattle.day_rows.specs.declared.check.Checked.{Checked}
-use Rattle.day_rows.specs.declared.check.Checked.TheVariants as checked
 use Rattle.day_rows.specs.declared.check.Counts.{Counts}
 use Rattle.day_rows.specs.declared.check.Takes.TheVariants.{Scheduling}
 use Rattle.day_rows.specs.declared.refusal.Refusal.{Refusal}
@@ -241,19 +239,23 @@ own-given counts rows starts lengths numbers h =
 abbrev filled_with : List ℕ → ℕ → Outcome ℕ Map
 filled_with rows choices = outcome (own_counted rows choices) (own_pools rows choices)
 
-module _ (counts : Counts) (rows starts lengths numbers : List ℕ) {answer : Checked} (e : checked_tells answer ≡ own_judged counts rows (map_of starts lengths numbers)) where
-  then_mapped : (known : Checked) → answer ≡ known → judged (checked_tells known) (map_of starts lengths numbers) (filled_with rows counts.choices) ≡ own_map_of counts rows (map_of starts lengths numbers)
+module _ (counts : Counts) (rows starts lengths numbers : List ℕ) where
+  pub own-refused : (why : Refusal) {told : Told ℕ} → told ≡ refusal_tells why → refusal_tells why ≡ own_judged counts rows (map_of starts lengths numbers)
+      → outcome told (map_of starts lengths numbers) ≡ own_map_of counts rows (map_of starts lengths numbers)
   unfolding own_map_of
-  then_mapped known k = ap (λ (v : Verdict). judged v (map_of starts lengths numbers) (filled_with rows counts.choices)) (sym (ap checked_tells k) ∙ e)
+  own-refused why t e =
+      ap (λ (t : Told ℕ). outcome t (map_of starts lengths numbers)) t
+      ∙ ap (λ (v : Verdict). judged v (map_of starts lengths numbers) (filled_with rows counts.choices)) e
 
-  pub own-refused : {why : Refusal} → answer ≡ checked.Refused why → outcome (refusal_tells why) (map_of starts lengths numbers) ≡ own_map_of counts rows (map_of starts lengths numbers)
-  own-refused {why} r = then_mapped (checked.Refused why) r
-
-  module _ (g : answer ≡ checked.Good) where
+  module _ (e : good ≡ own_judged counts rows (map_of starts lengths numbers)) where
     pub own-good : PoolsFull counts.choices rows starts lengths numbers
-    own-good = own-given counts rows starts lengths numbers (sym e ∙ ap checked_tells g)
+    own-good = own-given counts rows starts lengths numbers (sym e)
 
     module _ {count : ℕ} {after : Map} (f : OwnMapFilled counts.choices rows count after) where
+      then_filled : filled_with rows counts.choices ≡ own_map_of counts rows (map_of starts lengths numbers)
+      unfolding own_map_of
+      then_filled = ap (λ (v : Verdict). judged v (map_of starts lengths numbers) (filled_with rows counts.choices)) e
+
       counted-few : count ≤ 10240 → done count ≡ own_counted rows counts.choices
       unfolding own_counted
       counted-few h = rw (sym f.counted, le-leb _ _ h)
@@ -263,7 +265,7 @@ module _ (counts : Counts) (rows starts lengths numbers : List ℕ) {answer : Ch
       counted-over h = rw (sym f.counted, lt-leb _ _ h)
 
       pub own-done : count ≤ 10240 → outcome (done count) after ≡ own_map_of counts rows (map_of starts lengths numbers)
-      own-done h = ap₂ (λ (t : Told ℕ) (m : Map). outcome t m) (counted-few h) f.pools_are ∙ then_mapped checked.Good g
+      own-done h = ap₂ (λ (t : Told ℕ) (m : Map). outcome t m) (counted-few h) f.pools_are ∙ then_filled
 
       pub own-over : 10240 < count → outcome (refuse 6) after ≡ own_map_of counts rows (map_of starts lengths numbers)
-      own-over h = ap₂ (λ (t : Told ℕ) (m : Map). outcome t m) (counted-over h) f.pools_are ∙ then_mapped checked.Good g
+      own-over h = ap₂ (λ (t : Told ℕ) (m : Map). outcome t m) (counted-over h) f.pools_are ∙ then_filled

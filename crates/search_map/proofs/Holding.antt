@@ -1,6 +1,6 @@
 -- A map as it is lent: words read, parts, what is looked up, and the test of 14, a law for each way through
 -- the functions.
-use mathlib.Core.Path.{◌≡◌, refl, sym, ◌∙◌, ap}
+use mathlib.Core.Path.{◌≡◌, sym, ◌∙◌, ap}
 use mathlib.Core.Bool.{Bool, true, false}
 use mathlib.Core.List.{List, []}
 use Prim.Native.Nat.{ℕ, ◌+◌, ◌-◌, ◌≤◌, ◌<◌}
@@ -12,7 +12,7 @@ use lib.Seq.{take_all}
 use Rattle.base_lists.specs.Below.{all_below}
 use Rattle.base_lists.specs.Pool.{window}
 use Rattle.base_lists.proofs.Below.{one-fails}
-use Rattle.base_lists.proofs.Through.{all_done, all_ext}
+use Rattle.base_lists.proofs.Through.{all_done}
 use Rattle.search_map.specs.Map.{map_of, no_entry, start_of, length_of, has_entry, looked_up, entry_fits, is_whole, map_keeps}
 use Rattle.search_map.specs.Calls.{map_full}
 use Rattle.search_map.specs.steps.Words.{WordAt}
@@ -65,11 +65,6 @@ module _ (starts lengths numbers : List ℕ) (choice : ℕ) {start : ℕ} (at : 
   unfolding entry_fits start_of length_of
   fits-end count n z = rw (some n, at.is, z.is)
 
--- the numbers are no part of 14's test of an entry
-fits_any : (count : ℕ) (starts lengths numbers : List ℕ) (choice : ℕ) → entry_fits count (map_of starts lengths []) choice ≡ entry_fits count (map_of starts lengths numbers) choice
-unfolding entry_fits has_entry start_of length_of
-fits_any count starts lengths numbers choice = refl
-
 -- ---- 14's test of a number, and of a place of the whole list
 
 module _ {numbers : List ℕ} {i value : ℕ} (at : WordAt numbers i 0 value) (rows : ℕ) where
@@ -93,26 +88,23 @@ module _ (whole : List ℕ) (i : ℕ) where
 
 module _ (choices rows count : ℕ) (starts lengths numbers whole : List ℕ) where
   abbrev entries : Bool
-  entries = all_below choices (entry_fits count (map_of starts lengths []))
+  entries = all_below choices (entry_fits count (map_of starts lengths numbers))
 
   abbrev named : Bool
   named = all_below count λ i. ltb (get_or numbers i 0) rows
 
-  entries_any : entries ≡ all_below choices (entry_fits count (map_of starts lengths numbers))
-  entries_any = all_ext choices _ _ λ c h. fits_any count starts lengths numbers c
-
   pub entries_fail : {b : Bool} → b ≡ entries → b ≡ false → false ≡ map_keeps choices rows count (map_of starts lengths numbers) whole
   unfolding map_keeps
-  entries_fail e f = rw (sym entries_any, sym e, f)
+  entries_fail e f = rw (sym e, f)
 
   pub numbers_fail : {b n : Bool} → b ≡ entries → b ≡ true → n ≡ named → n ≡ false → false ≡ map_keeps choices rows count (map_of starts lengths numbers) whole
   unfolding map_keeps
-  numbers_fail e f g h = rw (sym entries_any, sym e, f, sym g, h)
+  numbers_fail e f g h = rw (sym e, f, sym g, h)
 
   pub whole-decides : {b n w : Bool} → b ≡ entries → b ≡ true → n ≡ named → n ≡ true → w ≡ is_whole whole
       → w ≡ map_keeps choices rows count (map_of starts lengths numbers) whole
   unfolding map_keeps
-  whole-decides e f g h w = rw (sym entries_any, sym e, f, sym g, h) w
+  whole-decides e f g h w = rw (sym e, f, sym g, h) w
 
 -- ---- the lengths of the pools
 

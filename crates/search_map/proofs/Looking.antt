@@ -1,20 +1,23 @@
 -- The lookup as a call, a law for each way through its functions.
-use mathlib.Core.Path.{◌≡◌, sym, ◌∙◌, ap}
+use mathlib.Core.Path.{◌≡◌, ◌∙◌, ap}
 use mathlib.Core.Bool.{true, false}
-use mathlib.Core.List.{List, []}
+use mathlib.Core.List.{List}
 use Prim.Native.Nat.{ℕ, ◌≤◌, ◌<◌}
 use borrow.Author.Tests.{le-leb, lt-leb, eq-eqb, ne_eqb}
 use lib.Dec.{ltb}
 use lib.ListN.{length}
-use Rattle.day_rows.specs.Check.{checked_tells}
-use Rattle.day_rows.specs.Refusal.{number_of}
-use Rattle.day_rows.specs.Told.{done, Verdict, good, refuse, and_then}
-use Rattle.day_rows.specs.declared.check.Checked.{Checked}
-use Rattle.day_rows.specs.declared.check.Checked.TheVariants as checked
+use Rattle.std.specs.Borrow.{Bor}
+use Rattle.std.specs.Prelude.{Result, Ok, Err, IsErrAnd}
+use Rattle.day_rows.specs.Told.{tells, done, Verdict, good, refuse, refusal_tells, and_then}
 use Rattle.day_rows.specs.declared.refusal.Refusal.{Refusal}
 use Rattle.search_map.specs.Map.{Map, looked_up, map_keeps}
-use Rattle.search_map.specs.Calls.{map_full, lookup_in_range, lookup_judged, lookup_of, looked, looked_of}
-use Rattle.search_map.specs.declared.lookup.MapCounts.{MapCounts}
+use Rattle.search_map.specs.Calls.{map_full, lookup_in_range, lookup_judged, lookup_of, looked}
+use Rattle.search_map.specs.declared.map.MapCounts.{MapCounts}
+
+-- an error that the lookup passes on by `?` is told as it was
+borrowed_on : (answer : Result (Bor (List ℕ)) Refusal) (why : Refusal) → IsErrAnd answer (λ given. given ≡ why) → tells (looked answer) ≡ refusal_tells why
+borrowed_on (Ok value) why h = absurd h
+borrowed_on (Err given) why h = ap (λ (why : Refusal). refusal_tells why) h
 
 -- ---- the counts, one test after the other
 
@@ -63,13 +66,11 @@ module _ (counts : MapCounts) (choice : ℕ) (map : Map) (whole : List ℕ) wher
 
   -- ---- what is handed back
 
-  module _ {answer : Checked} (e : checked_tells answer ≡ lookup_judged counts choice map whole) where
-    then_looked : (known : Checked) → answer ≡ known → looked_of (and_then (checked_tells known) (done (looked_up map whole choice))) ≡ looked_of (lookup_of counts choice map whole)
-    unfolding lookup_of
-    then_looked known k = ap (λ (v : Verdict). looked_of (and_then v (done (looked_up map whole choice)))) (sym (ap checked_tells k) ∙ e)
+  pub lookup_refused : (why : Refusal) (answer : Result (Bor (List ℕ)) Refusal) → IsErrAnd answer (λ given. given ≡ why) → refusal_tells why ≡ lookup_judged counts choice map whole
+      → tells (looked answer) ≡ lookup_of counts choice map whole
+  unfolding lookup_of
+  lookup_refused why answer p e = borrowed_on answer why p ∙ ap (λ (v : Verdict). and_then v (done (looked_up map whole choice))) e
 
-    pub lookup_refused : {why : Refusal} {number : ℕ} → answer ≡ checked.Refused why → number ≡ number_of why → looked number [] ≡ looked_of (lookup_of counts choice map whole)
-    lookup_refused {why} r n = ap (λ (x : ℕ). looked x []) n ∙ then_looked (checked.Refused why) r
-
-    pub lookup_found : {part : List ℕ} → answer ≡ checked.Good → part ≡ looked_up map whole choice → looked 0 part ≡ looked_of (lookup_of counts choice map whole)
-    lookup_found g p = ap (λ (x : List ℕ). looked 0 x) p ∙ then_looked checked.Good g
+  pub lookup_found : {part : List ℕ} → good ≡ lookup_judged counts choice map whole → part ≡ looked_up map whole choice → done part ≡ lookup_of counts choice map whole
+  unfolding lookup_of
+  lookup_found e p = ap done p ∙ ap (λ (v : Verdict). and_then v (done (looked_up map whole choice))) e

@@ -1,14 +1,14 @@
 -- Own map and lookup as calls: their refusals, lowest number first, their answers and the pools.
-use Rattle.std.specs.Prelude.{Bool, ◌&&◌, cond, List, [], ℕ, eqb, ltb, leb, length}
+use Rattle.std.specs.Prelude.{Bool, ◌&&◌, cond, List, [], ℕ, Result, Ok, Err, eqb, ltb, leb, length}
+use Rattle.std.specs.Borrow.{Bor}
 use Rattle.base_lists.specs.Pool.{pad}
 use Rattle.day_rows.specs.Check.{counts_in_range, rows_judged}
 use Rattle.day_rows.specs.declared.check.Counts.{Counts}
 use Rattle.day_rows.specs.declared.check.Takes.TheVariants.{Scheduling}
-use Rattle.day_rows.specs.Told.{Told, done, refused, Verdict, good, refusal_tells, unless, and_then, Outcome, outcome, judged}
+use Rattle.day_rows.specs.declared.refusal.Refusal.{Refusal}
+use Rattle.day_rows.specs.Told.{Told, done, Verdict, good, unless, and_then, Outcome, outcome, judged}
 use Rattle.search_map.specs.Map.{Map, map_of, map_keeps, looked_up, own_numbers, own_starts, own_lengths}
-use Rattle.search_map.specs.declared.own_map.Mapped.{Mapped}
-use Rattle.search_map.specs.declared.own_map.Mapped.TheVariants as mapped
-use Rattle.search_map.specs.declared.lookup.MapCounts.{MapCounts}
+use Rattle.search_map.specs.declared.map.MapCounts.{MapCounts}
 
 -- 'A pool is lent at its full limit': 64 choices and 10,240 numbers
 unfoldable pub map_full : Map → Bool
@@ -16,11 +16,6 @@ map_full map =
     eqb (length map.starts) 64 && eqb (length map.lengths) 64 && eqb (length map.numbers) 10240
 
 -- ---- the own map
-
--- what the own map answers: how many numbers it has, or 01's number
-abbrev pub mapped_tells : Mapped → Told ℕ
-mapped_tells (mapped.Numbers count) = done count
-mapped_tells (mapped.Refused why) = refusal_tells why
 
 -- the own map's refusals that leave the pools untouched: 1, 2, 5 with the first bad row
 unfoldable pub own_judged : Counts → List ℕ → Map → Verdict
@@ -71,15 +66,7 @@ unfoldable pub lookup_of : MapCounts → ℕ → Map → List ℕ → Told (List
 lookup_of counts choice map whole =
     and_then (lookup_judged counts choice map whole) (done (looked_up map whole choice))
 
--- what the lookup hands back: 0 with the choice's part, or 01's number of a refusal with an empty one
-pub record Looked : Type 0 where
-  pub number : ℕ
-  pub part : List ℕ
-
-abbrev pub looked : ℕ → List ℕ → Looked
-looked number part = record { number = number; part = part }
-
--- the lookup's answer as it is handed back
-abbrev pub looked_of : Told (List ℕ) → Looked
-looked_of (done part) = looked 0 part
-looked_of (refused number carried) = looked number []
+-- what the lookup hands back: the numbers of the part, or why it refuses
+abbrev pub looked : Result (Bor (List ℕ)) Refusal → Result (List ℕ) Refusal
+looked (Ok part) = Ok part.now
+looked (Err why) = Err why

@@ -6,6 +6,7 @@ use Rattle.base_lists.specs.Group.{keep_below}
 use Rattle.base_lists.specs.Pool.{window}
 use Rattle.day_rows.specs.Row.{row_of}
 use Rattle.day_rows.specs.declared.row.Row.{Row}
+use Rattle.search_map.specs.declared.map.Map as lent
 
 -- ---- which rows are a choice's
 
@@ -40,6 +41,10 @@ pub record Map : Type 0 where
 -- a map from its three pools
 abbrev pub map_of : List ℕ → List ℕ → List ℕ → Map
 map_of starts lengths numbers = record { starts = starts; lengths = lengths; numbers = numbers }
+
+-- the map that a call is lent
+abbrev pub map_lent : lent.Map → Map
+map_lent map = map_of map.starts.now map.lengths.now map.numbers.now
 
 -- the start that says that a choice has no entry
 abbrev pub no_entry : ℕ

@@ -1,21 +1,12 @@
 // The lookup as a public call.
 ghost use Rattle.std.specs.Prelude.{◌≡◌};
-ghost use Rattle.day_rows.specs.Check.{checked_tells};
-ghost use Rattle.search_map.specs.Map.{map_of};
-ghost use Rattle.search_map.specs.Calls.{lookup_in_range, lookup_judged, looked, looked_of, lookup_of};
+ghost use Rattle.day_rows.specs.Told.{tells};
+ghost use Rattle.search_map.specs.Map.{map_lent};
+ghost use Rattle.search_map.specs.Calls.{lookup_in_range, lookup_judged, looked, lookup_of};
 
-use super::map::{MOST_CHOICES, MOST_NUMBERS, is_full, judge_map, rows_of};
-use day_rows::check::Checked;
+use super::map::{MOST_CHOICES, MOST_NUMBERS, Map, MapCounts, is_full, judge_map, rows_of};
 use day_rows::number::Choice;
 use day_rows::refusal::Refusal;
-
-// How many choices, rows and numbers a map is lent for: any numbers.
-#[derive(Clone, Copy)]
-pub struct MapCounts {
-    pub choices: usize,
-    pub rows: usize,
-    pub numbers: usize,
-}
 
 // The most rows: 'reduced rows 0..1,024'.
 const MOST_ROWS: usize = 1024;
@@ -37,61 +28,34 @@ fn is_in_range(counts: MapCounts, choice: usize) -> bool
 }
 
 // The lookup's refusals, lowest number first: 1, 2, 14.
-fn judge(
-    counts: MapCounts,
-    choice: usize,
-    starts: &[u16],
-    lengths: &[u16],
-    numbers: &[u16],
-    whole: &[u16],
-) -> Checked
-    ensures { let map = map_of starts.now lengths.now numbers.now in
-        checked_tells result ≡ lookup_judged counts choice map whole.now }
+fn judge(counts: MapCounts, choice: usize, map: &Map, whole: &[u16]) -> Result<(), Refusal>
+    ensures { tells result ≡ lookup_judged counts choice (map_lent map.now) whole.now }
 {
     if !is_in_range(counts, choice) {
-        return Checked::Refused(Refusal::Count);
+        return Err(Refusal::Count);
     }
-    if !is_full(starts, lengths, numbers) {
-        return Checked::Refused(Refusal::Length);
+    if !is_full(map) {
+        return Err(Refusal::Length);
     }
     if whole.len() != counts.rows {
-        return Checked::Refused(Refusal::Length);
+        return Err(Refusal::Length);
     }
-    if !judge_map(
-        counts.choices,
-        counts.rows,
-        counts.numbers,
-        starts,
-        lengths,
-        numbers,
-        whole,
-    ) {
-        return Checked::Refused(Refusal::Map);
+    if !judge_map(counts, map, whole) {
+        return Err(Refusal::Map);
     }
-    Checked::Good
+    Ok(())
 }
 
-// A choice's rows: 'a part of one of these two lent lists of row numbers', and 0; or 01's number of a
-// refusal, with an empty part.
+// A choice's rows: 'a part of one of these two lent lists of row numbers'.
 pub fn lookup<'a>(
     counts: MapCounts,
     choice: Choice,
-    starts: &[u16],
-    lengths: &[u16],
-    numbers: &'a [u16],
+    map: &Map<'a>,
     whole: &'a [u16],
-    number: &mut u8,
-) -> &'a [u16]
-    ensures { let map = map_of starts.now lengths.now numbers.now in
-        let answer = lookup_of counts choice.0 map whole.now in
-        looked number.new result.now ≡ looked_of answer }
+) -> Result<&'a [u16], Refusal>
+    ensures { tells (looked result) ≡ lookup_of counts choice.0 (map_lent map.now) whole.now }
 {
     let at = choice.0 as usize;
-    let judged = judge(counts, at, starts, lengths, numbers, whole);
-    if let Checked::Refused(why) = judged {
-        *number = why.number();
-        return &whole[..0];
-    }
-    *number = 0;
-    rows_of(starts, lengths, numbers, whole, at)
+    judge(counts, at, map, whole)?;
+    Ok(rows_of(map, whole, at))
 }

@@ -1,10 +1,26 @@
 // A map as it is lent: 'a choice's rows are its map entry, or the whole list where it has none'.
-ghost use Rattle.std.specs.Prelude.{◌≡◌, [], ◌≤◌, ◌+◌, ◌<◌, ltb, get_or};
+ghost use Rattle.std.specs.Prelude.{◌≡◌, ◌≤◌, ◌+◌, ◌<◌, ltb, get_or};
 ghost use Rattle.base_lists.specs.Below.{all_below};
 ghost use Rattle.base_lists.specs.Pool.{window};
-ghost use Rattle.search_map.specs.Map.{map_of, looked_up, entry_fits, is_whole, map_keeps};
+ghost use Rattle.search_map.specs.Map.{map_lent, looked_up, entry_fits, is_whole, map_keeps};
 ghost use Rattle.search_map.specs.Calls.{map_full};
 ghost use Rattle.search_map.specs.steps.Words.{WordAt};
+
+// A map where it is read: where each choice's entry starts, how long it is, and the numbers of all entries.
+#[derive(Clone, Copy)]
+pub struct Map<'a> {
+    pub starts: &'a [u16],
+    pub lengths: &'a [u16],
+    pub numbers: &'a [u16],
+}
+
+// How many choices, rows and numbers a map is lent for: any numbers.
+#[derive(Clone, Copy)]
+pub struct MapCounts {
+    pub choices: usize,
+    pub rows: usize,
+    pub numbers: usize,
+}
 
 // The most choices, which is as many as the pools of starts and lengths have.
 pub const MOST_CHOICES: usize = 64;
@@ -42,53 +58,46 @@ fn part(numbers: &[u16], start: usize, size: usize) -> &[u16]
 }
 
 // A choice's rows in any map: the search's lookup, which its own test for 14 comes before.
-pub fn rows_of<'a>(
-    starts: &[u16],
-    lengths: &[u16],
-    numbers: &'a [u16],
-    whole: &'a [u16],
-    choice: usize,
-) -> &'a [u16]
-    ensures { let map = map_of starts.now lengths.now numbers.now in
-        result.now ≡ looked_up map whole.now choice }
+pub fn rows_of<'a>(map: &Map<'a>, whole: &'a [u16], choice: usize) -> &'a [u16]
+    ensures { result.now ≡ looked_up (map_lent map.now) whole.now choice }
 {
-    let start = word_at(starts, choice, NO_ENTRY);
+    let start = word_at(map.starts, choice, NO_ENTRY);
     if start == NO_ENTRY {
         return whole;
     }
-    part(numbers, start, word_at(lengths, choice, 0))
+    part(map.numbers, start, word_at(map.lengths, choice, 0))
 }
 
 // Whether the pools are lent at their full limits.
-pub fn is_full(starts: &[u16], lengths: &[u16], numbers: &[u16]) -> bool
-    ensures { result ≡ map_full (map_of starts.now lengths.now numbers.now) }
+pub fn is_full(map: &Map) -> bool
+    ensures { result ≡ map_full (map_lent map.now) }
 {
-    if starts.len() != MOST_CHOICES {
+    if map.starts.len() != MOST_CHOICES {
         return false;
     }
-    if lengths.len() != MOST_CHOICES {
+    if map.lengths.len() != MOST_CHOICES {
         return false;
     }
-    numbers.len() == MOST_NUMBERS
+    map.numbers.len() == MOST_NUMBERS
 }
 
 // Whether a choice has no entry, or one that ends within the count.
-fn entry_fits(count: usize, starts: &[u16], lengths: &[u16], choice: usize) -> bool
-    ensures { result ≡ entry_fits count (map_of starts.now lengths.now []) choice }
+fn entry_fits(count: usize, map: &Map, choice: usize) -> bool
+    ensures { result ≡ entry_fits count (map_lent map.now) choice }
 {
-    let start = word_at(starts, choice, NO_ENTRY);
+    let start = word_at(map.starts, choice, NO_ENTRY);
     if start == NO_ENTRY {
         return true;
     }
-    start + word_at(lengths, choice, 0) <= count
+    start + word_at(map.lengths, choice, 0) <= count
 }
 
 // Whether every choice has no entry, or one that ends within the count.
-fn entries_fit(choices: usize, count: usize, starts: &[u16], lengths: &[u16]) -> bool
-    ensures { result ≡ all_below choices (entry_fits count (map_of starts.now lengths.now [])) }
+fn entries_fit(choices: usize, count: usize, map: &Map) -> bool
+    ensures { result ≡ all_below choices (entry_fits count (map_lent map.now)) }
 {
     for choice in 0..choices {
-        if !entry_fits(count, starts, lengths, choice) {
+        if !entry_fits(count, map, choice) {
             return false;
         }
     }
@@ -121,22 +130,14 @@ fn is_whole(whole: &[u16]) -> bool
 
 // The test of 14: whether every entry ends within the numbers, every number names a row, and the whole list
 // is 0, 1, 2 ..
-pub fn judge_map(
-    choices: usize,
-    rows: usize,
-    count: usize,
-    starts: &[u16],
-    lengths: &[u16],
-    numbers: &[u16],
-    whole: &[u16],
-) -> bool
-    ensures { let map = map_of starts.now lengths.now numbers.now in
-        result ≡ map_keeps choices rows count map whole.now }
+pub fn judge_map(counts: MapCounts, map: &Map, whole: &[u16]) -> bool
+    ensures { let map = map_lent map.now in
+        result ≡ map_keeps counts.choices counts.rows counts.numbers map whole.now }
 {
-    if !entries_fit(choices, count, starts, lengths) {
+    if !entries_fit(counts.choices, counts.numbers, map) {
         return false;
     }
-    if !numbers_fit(rows, count, numbers) {
+    if !numbers_fit(counts.rows, counts.numbers, map.numbers) {
         return false;
     }
     is_whole(whole)

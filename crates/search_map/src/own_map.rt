@@ -1,22 +1,14 @@
 // The own map as a public call: 'Own map (added): every choice has an entry'.
 ghost use Rattle.std.specs.Prelude.{◌≡◌};
-ghost use Rattle.day_rows.specs.Check.{checked_tells};
-ghost use Rattle.day_rows.specs.Told.{outcome};
-ghost use Rattle.search_map.specs.Map.{map_of};
-ghost use Rattle.search_map.specs.Calls.{mapped_tells, own_judged, own_map_of};
+ghost use Rattle.day_rows.specs.Told.{tells, outcome};
+ghost use Rattle.search_map.specs.Map.{map_of, map_lent};
+ghost use Rattle.search_map.specs.Calls.{own_judged, own_map_of};
 ghost use Rattle.search_map.specs.steps.Filling.{PoolsFull, Cleared, Entered, OwnMapFilled};
 
 use super::entry::add_entry;
-use super::map::{MOST_NUMBERS, is_full};
-use day_rows::check::{Checked, Counts, Takes, check_each_row, counts_in_range};
+use super::map::{MOST_NUMBERS, Map, is_full};
+use day_rows::check::{Counts, Takes, check_each_row, counts_in_range};
 use day_rows::refusal::Refusal;
-
-// What the own map answers: how many numbers it has, or why it is refused.
-#[derive(Clone, Copy)]
-pub enum Mapped {
-    Numbers(usize),
-    Refused(Refusal),
-}
 
 // Every choice's entry written, one after another; the answer is how many numbers the entries have, past the
 // pool's room too.
@@ -76,41 +68,42 @@ fn fill(
 }
 
 // The own map's refusals that leave the pools untouched, lowest number first: 1, 2, 5 with the first bad row.
-fn judge(counts: Counts, rows: &[u64], starts: &[u16], lengths: &[u16], numbers: &[u16]) -> Checked
-    ensures { let pools = map_of starts.now lengths.now numbers.now in
-        checked_tells result ≡ own_judged counts rows.now pools }
+fn judge(counts: Counts, rows: &[u64], pools: &Map) -> Result<(), Refusal>
+    ensures { tells result ≡ own_judged counts rows.now (map_lent pools.now) }
 {
     if !counts_in_range(counts, Takes::Scheduling) {
-        return Checked::Refused(Refusal::Count);
+        return Err(Refusal::Count);
     }
     if rows.len() != counts.rows {
-        return Checked::Refused(Refusal::Length);
+        return Err(Refusal::Length);
     }
-    if !is_full(starts, lengths, numbers) {
-        return Checked::Refused(Refusal::Length);
+    if !is_full(pools) {
+        return Err(Refusal::Length);
     }
     check_each_row(counts, Takes::Scheduling, rows)
 }
 
-// The own map of a list of rows, in lent pools.
+// The own map of a list of rows, in lent pools: how many numbers it has.
 pub fn own_map(
     counts: Counts,
     rows: &[u64],
     starts: &mut [u16],
     lengths: &mut [u16],
     numbers: &mut [u16],
-) -> Mapped
+) -> Result<usize, Refusal>
     ensures { let before = map_of starts.old lengths.old numbers.old in
         let after = map_of starts.new lengths.new numbers.new in
-        outcome (mapped_tells result) after ≡ own_map_of counts rows.now before }
+        outcome (tells result) after ≡ own_map_of counts rows.now before }
 {
-    let judged = judge(counts, rows, starts, lengths, numbers);
-    if let Checked::Refused(why) = judged {
-        return Mapped::Refused(why);
-    }
+    let pools = Map {
+        starts,
+        lengths,
+        numbers,
+    };
+    judge(counts, rows, &pools)?;
     let count = fill(counts.choices, rows, starts, lengths, numbers);
     if MOST_NUMBERS < count {
-        return Mapped::Refused(Refusal::TooMany);
+        return Err(Refusal::TooMany);
     }
-    Mapped::Numbers(count)
+    Ok(count)
 }
