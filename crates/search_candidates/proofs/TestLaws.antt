@@ -15,7 +15,7 @@ use Rattle.base_lists.proofs.CountBelow.{count_misses}
 use Rattle.base_lists.proofs.Group.{keep_in, keep_out, length-keep}
 use Rattle.search_candidates.specs.Loads.{Loads, max_of}
 use Rattle.search_candidates.specs.Tests.{some_short, critical_slots}
-use Rattle.search_candidates.specs.steps.Maximums.{maximums_of, is_critical, Next}
+use Rattle.search_candidates.specs.steps.Maximums.{is_critical, Next}
 
 -- ---- the next slot that is critical
 
@@ -76,32 +76,32 @@ module _ (p : ℕ → Bool) where
 
 -- ---- a slot that is short is one that is critical with this choice's max in what remains
 
-module _ (choosers : ℕ) (slot_max : List ℕ) (remaining : ℕ) where
-  is_enough : (slot : ℕ) → is_critical choosers slot_max remaining slot ≡ false → leb choosers (max_of (maximums_of slot_max) slot + remaining) ≡ true
+module _ (choosers : ℕ) (loads : Loads) (remaining : ℕ) where
+  is_enough : (slot : ℕ) → is_critical choosers loads.slot_max remaining slot ≡ false → leb choosers (max_of loads slot + remaining) ≡ true
   unfolding is_critical max_of
-  is_enough slot t = le-leb choosers (get_or slot_max slot 0 + remaining) (ltb-false (get_or slot_max slot 0 + remaining) choosers t)
+  is_enough slot t = le-leb choosers (get_or loads.slot_max slot 0 + remaining) (ltb-false (get_or loads.slot_max slot 0 + remaining) choosers t)
 
-  too_little : (slot : ℕ) → is_critical choosers slot_max remaining slot ≡ true → leb choosers (max_of (maximums_of slot_max) slot + remaining) ≡ false
+  too_little : (slot : ℕ) → is_critical choosers loads.slot_max remaining slot ≡ true → leb choosers (max_of loads slot + remaining) ≡ false
   unfolding is_critical max_of
-  too_little slot t = lt-leb choosers (get_or slot_max slot 0 + remaining) (ltb-true (get_or slot_max slot 0 + remaining) choosers t)
+  too_little slot t = lt-leb choosers (get_or loads.slot_max slot 0 + remaining) (ltb-true (get_or loads.slot_max slot 0 + remaining) choosers t)
 
-  module _ (slots first : ℕ) (n : Next (is_critical choosers slot_max remaining) 0 slots first) where
-    each_enough : slots ≤ first → (k : ℕ) → k < slots → leb choosers (max_of (maximums_of slot_max) k + remaining) ≡ true
-    each_enough h k l = by (is_critical choosers slot_max remaining k) refl
+  module _ (slots first : ℕ) (n : Next (is_critical choosers loads.slot_max remaining) 0 slots first) where
+    each_enough : slots ≤ first → (k : ℕ) → k < slots → leb choosers (max_of loads k + remaining) ≡ true
+    each_enough h k l = by (is_critical choosers loads.slot_max remaining k) refl
       where
-        none : count_below slots (is_critical choosers slot_max remaining) ≡ 0
-        none = sym (length-keep slots (is_critical choosers slot_max remaining)) ∙ ap length (none_critical (is_critical choosers slot_max remaining) slots first n h)
+        none : count_below slots (is_critical choosers loads.slot_max remaining) ≡ 0
+        none = sym (length-keep slots (is_critical choosers loads.slot_max remaining)) ∙ ap length (none_critical (is_critical choosers loads.slot_max remaining) slots first n h)
 
-        by : (b : Bool) → is_critical choosers slot_max remaining k ≡ b → leb choosers (max_of (maximums_of slot_max) k + remaining) ≡ true
-        by true t = absurd (omega (arith, none, count_misses slots (is_critical choosers slot_max remaining) k l t))
+        by : (b : Bool) → is_critical choosers loads.slot_max remaining k ≡ b → leb choosers (max_of loads k + remaining) ≡ true
+        by true t = absurd (omega (arith, none, count_misses slots (is_critical choosers loads.slot_max remaining) k l t))
         by false t = is_enough k t
 
-    pub short_is : ltb first slots ≡ some_short slots choosers (maximums_of slot_max) remaining
+    pub short_is : ltb first slots ≡ some_short slots choosers loads remaining
     unfolding some_short
     short_is = by (ltb first slots) refl
       where
-        by : (b : Bool) → ltb first slots ≡ b → b ≡ not (all_below slots (λ k. leb choosers (max_of (maximums_of slot_max) k + remaining)))
+        by : (b : Bool) → ltb first slots ≡ b → b ≡ not (all_below slots (λ k. leb choosers (max_of loads k + remaining)))
         by true t =
             let h = ltb-true first slots t in
-            sym (ap not (one-fails slots (λ k. leb choosers (max_of (maximums_of slot_max) k + remaining)) first h (too_little first (n.passes h))))
-        by false t = sym (ap not (each_all slots (λ k. leb choosers (max_of (maximums_of slot_max) k + remaining)) (each_enough (ltb-false first slots t))))
+            sym (ap not (one-fails slots (λ k. leb choosers (max_of loads k + remaining)) first h (too_little first (n.passes h))))
+        by false t = sym (ap not (each_all slots (λ k. leb choosers (max_of loads k + remaining)) (each_enough (ltb-false first slots t))))

@@ -3,10 +3,11 @@
 #![tactic(auto)]
 
 pub mod allow;
+pub mod asked;
 pub mod bucket;
 mod critical;
 pub mod decision;
 mod ends;
 mod limits;
-mod loads;
+pub mod loads;
 mod stuck;

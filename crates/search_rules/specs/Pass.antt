@@ -6,7 +6,7 @@ use Rattle.plan_check.specs.Feasible.{feasible}
 use Rattle.search_rules.specs.Walk.{Sight, goal, over, on, Out, pass}
 use Rattle.search_map.specs.Map.{Map, looked_up}
 use Rattle.search_candidates.specs.Bucket.{Asked, asked_of, bucket_of, draws_one}
-use Rattle.search_candidates.specs.declared.bucket.Depth.{Depth}
+use Rattle.search_candidates.specs.declared.asked.Depth.{Depth}
 use Rattle.search_rules.specs.Decided.{decided, loads_at}
 
 -- what a pass is lent: full or as the Rust; the day; the map and the whole list of row numbers; the choices

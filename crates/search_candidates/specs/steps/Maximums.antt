@@ -1,11 +1,6 @@
 -- The tests that look at the sums of max alone.
-use Rattle.std.specs.Prelude.{◌≡◌, Bool, true, List, [], ℕ, ◌+◌, ◌≤◌, ◌<◌, ltb, get_or}
+use Rattle.std.specs.Prelude.{◌≡◌, Bool, true, List, ℕ, ◌+◌, ◌≤◌, ◌<◌, ltb, get_or}
 use Rattle.base_lists.specs.Group.{keep_below}
-use Rattle.search_candidates.specs.Loads.{Loads, loads_of}
-
--- each slot's sum of max, with nothing else told
-abbrev pub maximums_of : List ℕ → Loads
-maximums_of slot_max = loads_of [] [] slot_max []
 
 -- a slot that needs this choice: its maximums with the rest's are below H
 unfoldable pub is_critical : ℕ → List ℕ → ℕ → ℕ → Bool

@@ -10,7 +10,7 @@ loop-number-init c =
 
 pub returns-then-rows-at : goal.returns-then-rows-at
 returns-then-rows-at c =
-    sym (each-fails _ _ _ _ _ _ _ c.loop-number-test.true c.loop-number.invariant (past-rows c.args.rows.now (get_or c.args.numbers.now c.loop-number.number-index 0) _ _ _ _ c.if-rows-at.true))
+    sym (each-fails _ _ _ _ _ _ _ c.loop-number-test.true c.loop-number.invariant (past-rows c.args.asked.now.rows.now (get_or c.args.asked.now.numbers.now c.loop-number.number-index 0) _ _ _ _ c.if-rows-at.true))
 
 pub returns-then-not-row_allows : goal.returns-then-not-row_allows
 returns-then-not-row_allows c =

@@ -2,6 +2,7 @@
 use mathlib.Core.Path.{sym, ◌∙◌, ap}
 use native.Mathlib.Omega.{arith}
 use lib.Dec.{eqb}
+use Rattle.search_candidates.specs.Loads.{size_of}
 use Rattle.search_candidates.proofs.CaseLaws.{allows_in_slot, allows-not_in_slot, allows-between, allows_limited_size, allows-none-below, allows-none-above}
 use Rattle.search_candidates.proofs.allow.row_allows.Goals as goal
 
@@ -14,6 +15,7 @@ returns-in-2 c =
     rw c.right_of-in-2.ensures (sym (allows-not_in_slot _ _ _ _ _ (sym c.kind_of.ensures ∙ c.in-2.is)))
 
 pub returns-in-6 : goal.returns-in-6
+unfolding size_of
 returns-in-6 c =
     c.room_allows.ensures ∙ sym (allows_limited_size _ _ _ _ _ (sym c.kind_of.ensures ∙ c.in-6.is))
 

@@ -5,4 +5,4 @@ use Rattle.search_candidates.specs.steps.Maximums.{is_critical}
 use Rattle.search_candidates.proofs.critical.next_critical.Given as goal
 
 abbrev pub invariant-loop-slot : goal.invariant-loop-slot
-invariant-loop-slot l = keep_below l.slot (is_critical l.choosers l.slot_max l.rest) ≡ keep_below l.from (is_critical l.choosers l.slot_max l.rest)
+invariant-loop-slot l = keep_below l.slot (is_critical l.asked.counts.choosers l.asked.loads.slot_max.now l.rest) ≡ keep_below l.from (is_critical l.asked.counts.choosers l.asked.loads.slot_max.now l.rest)
