@@ -9,19 +9,16 @@ use lib.Dec.{eqb}
 use lib.ListN.{length}
 use Rattle.base_lists.specs.Flat.{list_below}
 use Rattle.base_lists.proofs.Below.{and_left, and_right}
-use Rattle.day_rows.specs.Told.{Told, done, refused, refuse, refusal_tells, unless, Outcome, outcome, judged}
-use Rattle.day_rows.specs.declared.check.Checked.{Checked}
-use Rattle.day_rows.specs.declared.check.Checked.TheVariants as checked
-use Rattle.day_rows.specs.declared.refusal.Refusal.{Refusal}
+use Rattle.day_rows.specs.Told.{Told, done, refused, refuse, unless, Outcome, outcome, judged}
 use Rattle.base_lists.specs.All.{all_at_most}
 use Rattle.day_rows.specs.Levels.{levels_rise, last_level}
 use Rattle.sets_analysis.specs.SetsDay.{SetsDay, sets_counts_in_range, sets_lengths_fit}
 use Rattle.sets_analysis.specs.Kept.{CriticalSet, kept_sets}
 use Rattle.sets_analysis.specs.Bound.{lowered_to, bound_of}
-use Rattle.sets_analysis.specs.Calls.{Pools, pools, pools_full, Figures, figures, sets_in, sets_kept, analyzed_of, day_judged, analysis_of}
+use Rattle.sets_analysis.specs.Calls.{Pools, pools, pools_full, figures, sets_in, sets_kept, analyzed_of, day_judged, analysis_of}
 use Rattle.sets_analysis.specs.declared.analysis.Analysis.{Analysis}
 use Rattle.sets_analysis.specs.declared.analysis.Analysis.TheVariants as asked
-use Rattle.day_rows.specs.Check.{checked_tells}
+use Rattle.sets_analysis.specs.declared.analysis.Figures.{Figures}
 use Rattle.sets_analysis.specs.steps.Pools.{Lent, Fits, KeptIn, cleared_past, simplified_if}
 use Rattle.sets_analysis.proofs.PoolSteps.{sets-length, filled-by}
 use Rattle.sets_analysis.proofs.DaySteps.{counts-known}
@@ -141,22 +138,20 @@ day-answer day asked kept count bound masks levels masks₂ levels₂ k h s b l 
     (ap₂ figures (sym (sets-length count masks₂ levels₂) ∙ ap length sets) (b ∙ ap (λ (x : List CriticalSet). lowered_to day.counts.slots x (last_level day.levels) day.levels) sets))
     (ap₂ pools e.0 e.1 ∙ filled-by count masks₂ levels₂ (simplified_if asked (kept_sets day)) (omega (arith, l.few, l.masks-full)) (omega (arith, l.few, l.levels-full)) sets))
 
-module _ (day : SetsDay) (mode : Analysis) (masks levels : List ℕ) (answer : Checked) (e : checked_tells answer ≡ day_judged day (pools masks levels)) where
+module _ (day : SetsDay) (mode : Analysis) (masks levels : List ℕ) where
   -- a refusal leaves the pools untouched
-  pub call_refused : {why : Refusal} → answer ≡ checked.Refused why → outcome (refusal_tells why) (pools masks levels) ≡ analysis_of day mode (pools masks levels)
+  pub call_refused : {number : ℕ} {carried : List ℕ} → refused number carried ≡ day_judged day (pools masks levels)
+      → outcome (refused number carried) (pools masks levels) ≡ analysis_of day mode (pools masks levels)
   unfolding analysis_of
-  call_refused r = ap (λ (t : Told (Unit {0})). judged t (pools masks levels) (analyzed_of day mode)) (ap checked_tells (sym r) ∙ e)
+  call_refused e = ap (λ (t : Told (Unit {0})). judged t (pools masks levels) (analyzed_of day mode)) e
 
-  module _ (g : answer ≡ checked.Good) where
-    good : day_judged day (pools masks levels) ≡ done _
-    good = sym e ∙ ap checked_tells g
-
+  module _ (good : done _ ≡ day_judged day (pools masks levels)) where
     pub good-fits : Lent 0 masks levels × Fits day
-    good-fits = judged-fits day masks levels good
+    good-fits = judged-fits day masks levels (sym good)
 
     goes_on : analysis_of day mode (pools masks levels) ≡ analyzed_of day mode
     unfolding analysis_of
-    goes_on = ap (λ (t : Told (Unit {0})). judged t (pools masks levels) (analyzed_of day mode)) good
+    goes_on = ap (λ (t : Told (Unit {0})). judged t (pools masks levels) (analyzed_of day mode)) (sym good)
 
     pub call_off : {masks' levels' : List ℕ} → mode ≡ asked.Off → (masks' ≡ cleared_past 0 masks) × (levels' ≡ cleared_past 0 levels)
         → outcome (done (figures 0 0)) (pools masks' levels') ≡ analysis_of day mode (pools masks levels)

@@ -2,7 +2,7 @@
 use Rattle.std.specs.Prelude.{Bool, ◌&&◌, cond, List, [], map, ℕ, eqb, leb, length, get_or}
 use Rattle.base_lists.specs.Flat.{list_below}
 use Rattle.base_lists.specs.Pool.{pad}
-use Rattle.day_rows.specs.Told.{Told, done, Verdict, good, refuse, refusal_tells, unless, Outcome, outcome, judged}
+use Rattle.day_rows.specs.Told.{done, Verdict, good, refuse, unless, Outcome, outcome, judged}
 use Rattle.base_lists.specs.All.{all_at_most}
 use Rattle.day_rows.specs.Levels.{levels_rise, last_level}
 use Rattle.sets_analysis.specs.SetsDay.{SetsDay, sets_counts_in_range, sets_lengths_fit}
@@ -10,8 +10,7 @@ use Rattle.sets_analysis.specs.Kept.{CriticalSet, critical_set, kept_sets, simpl
 use Rattle.sets_analysis.specs.Bound.{bound_of}
 use Rattle.sets_analysis.specs.declared.analysis.Analysis.{Analysis}
 use Rattle.sets_analysis.specs.declared.analysis.Analysis.TheVariants as mode
-use Rattle.sets_analysis.specs.declared.analysis.Analyzed.{Analyzed}
-use Rattle.sets_analysis.specs.declared.analysis.Analyzed.TheVariants as analyzed
+use Rattle.sets_analysis.specs.declared.analysis.Figures.{Figures}
 
 -- the two pools of sets: the choices of each, and its level
 pub record Pools : Type 0 where
@@ -35,18 +34,8 @@ unfoldable pub sets_in : ℕ → List ℕ → List ℕ → List CriticalSet
 sets_in count masks levels = list_below count λ i. critical_set (get_or levels i 0) (get_or masks i 0)
 
 -- what the analysis hands back: how many sets there are, and the bound
-pub record Figures : Type 0 where
-  pub count : ℕ
-  pub bound : ℕ
-
--- the figures by their parts
 abbrev pub figures : ℕ → ℕ → Figures
 figures count bound = record { count = count; bound = bound }
-
--- what the analysis answers in 01's terms
-abbrev pub analyzed_tells : Analyzed → Told Figures
-analyzed_tells (analyzed.Sets count bound) = done (figures count bound)
-analyzed_tells (analyzed.Refused why) = refusal_tells why
 
 -- the sets and their bound, or 7 where too many were kept: 'Numbers 6 and 7 leave the pool being filled
 -- all zero'

@@ -2,6 +2,7 @@
 use Rattle.std.specs.Prelude.{Bool, ◌&&◌, List, ℕ, ◌+◌, ◌*◌, eqb, leb, length, get_or}
 use Rattle.day_rows.specs.Levels.{levels_in_range}
 use Rattle.sets_analysis.specs.declared.day.SetsCounts.{SetsCounts}
+use Rattle.sets_analysis.specs.declared.day.SetsDay as lent
 
 -- a day: C, S, H and L; min of each choice; the levels; preferences chooser by chooser
 pub record SetsDay : Type 0 where
@@ -14,6 +15,10 @@ pub record SetsDay : Type 0 where
 abbrev pub day_of : SetsCounts → List ℕ → List ℕ → List ℕ → SetsDay
 day_of counts mins levels preferences =
     record { counts = counts; mins = mins; levels = levels; preferences = preferences }
+
+-- the day that a call is lent
+abbrev pub sets_day_lent : lent.SetsDay → SetsDay
+sets_day_lent day = day_of day.counts day.mins.now day.levels.now day.preferences.now
 
 -- a chooser's preference for a choice
 unfoldable pub preference_of : SetsDay → ℕ → ℕ → ℕ

@@ -1,7 +1,7 @@
-// A day's counts as the analysis takes them, and the tests of counts and lengths.
+// A day as the analysis takes it, and the tests of its counts and lengths.
 ghost use Rattle.std.specs.Prelude.{◌≡◌, true};
 ghost use Rattle.day_rows.specs.Levels.{levels_in_range};
-ghost use Rattle.sets_analysis.specs.SetsDay.{day_of, sets_counts_in_range, sets_lengths_fit};
+ghost use Rattle.sets_analysis.specs.SetsDay.{sets_day_lent, sets_counts_in_range, sets_lengths_fit};
 
 // A day's counts as the analysis is given them: any numbers.
 #[derive(Clone, Copy)]
@@ -10,6 +10,16 @@ pub struct SetsCounts {
     pub slots: usize,
     pub choosers: usize,
     pub levels: usize,
+}
+
+// A day's counts, each choice's minimum, the levels, and the preferences chooser by chooser. Any numbers may
+// stand in it: the analysis judges the day that it is lent.
+#[derive(Clone, Copy)]
+pub struct SetsDay<'a> {
+    pub counts: SetsCounts,
+    pub mins: &'a [u16],
+    pub levels: &'a [u16],
+    pub preferences: &'a [u16],
 }
 
 // Whether the number of levels is in its range: 'levels L 1..64'.
@@ -39,21 +49,15 @@ pub(crate) fn counts_keep(counts: SetsCounts) -> bool
 }
 
 // Whether a day's slices have their lengths: 'every other slice .. at the length its counts give'.
-pub(crate) fn lengths_keep(
-    counts: SetsCounts,
-    mins: &[u16],
-    levels: &[u16],
-    preferences: &[u16],
-) -> bool
-    requires { sets_counts_in_range counts ≡ true }
-    ensures { let day = day_of counts mins.now levels.now preferences.now in
-        result ≡ sets_lengths_fit day }
+pub(crate) fn lengths_keep(day: &SetsDay) -> bool
+    requires { sets_counts_in_range day.now.counts ≡ true }
+    ensures { result ≡ sets_lengths_fit (sets_day_lent day.now) }
 {
-    if mins.len() != counts.choices {
+    if day.mins.len() != day.counts.choices {
         return false;
     }
-    if levels.len() != counts.levels {
+    if day.levels.len() != day.counts.levels {
         return false;
     }
-    preferences.len() == counts.choosers * counts.choices
+    day.preferences.len() == day.counts.choosers * day.counts.choices
 }

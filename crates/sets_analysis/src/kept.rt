@@ -2,13 +2,13 @@
 ghost use Rattle.std.specs.Prelude.{◌≡◌, ◌*◌, ◌-◌, ◌≤◌, ◌<◌, length, get_or, MatchOption};
 ghost use Rattle.base_lists.specs.Flat.{list_below};
 ghost use Rattle.base_lists.specs.Keep.{any_of};
-ghost use Rattle.sets_analysis.specs.SetsDay.{day_of};
+ghost use Rattle.sets_analysis.specs.SetsDay.{sets_day_lent};
 ghost use Rattle.sets_analysis.specs.Kept.{critical_set, covered_by, candidate_of, kept_from, kept_sets};
 ghost use Rattle.sets_analysis.specs.Calls.{sets_in};
 ghost use Rattle.sets_analysis.specs.steps.Pools.{Lent, Fits, KeptIn, kept_next};
 
 use super::candidate::{Candidate, candidate_of};
-use super::day::SetsCounts;
+use super::day::{SetsCounts, SetsDay};
 use super::level_tests::{all_but_one, is_not_higher};
 use super::limits::MOST_SETS;
 use base_choice_sets::set::is_within;
@@ -79,30 +79,27 @@ fn room_of(counts: SetsCounts) -> usize
 // 'choosers upwards': the sets of one level, kept after the others. The answer is how many sets there are
 // then, none where there are too many.
 fn keep_level(
-    counts: SetsCounts,
+    day: &SetsDay,
     index: usize,
-    mins: &[u16],
-    levels: &[u16],
-    preferences: &[u16],
     masks: &mut [u64],
     set_levels: &mut [u16],
     count: usize,
 ) -> Option<usize>
-    requires { let day = day_of counts mins.now levels.now preferences.now in
-        Lent count masks.old set_levels.old × Fits day × (index < length levels.now) }
-    ensures { let day = day_of counts mins.now levels.now preferences.now in
+    requires { let day = sets_day_lent day.now in
+        Lent count masks.old set_levels.old × Fits day × (index < length day.levels) }
+    ensures { let day = sets_day_lent day.now in
         let before = sets_in count masks.old set_levels.old in
-        let level = get_or levels.now index 0 in
-        let after = kept_from day before (list_below counts.choosers (candidate_of day level)) in
+        let level = get_or day.levels index 0 in
+        let after = kept_from day before (list_below day.counts.choosers (candidate_of day level)) in
         MatchOption result (1024 < length after)
         (λ kept. (kept ≤ 1024) × KeptIn after kept masks.new set_levels.new) }
 {
-    let level = levels[index];
-    let room = room_of(counts);
+    let level = day.levels[index];
+    let room = room_of(day.counts);
     let mut kept = count;
-    for chooser in 0..counts.choosers {
-        let start = chooser * counts.choices;
-        let found = candidate_of(level, mins, preferences, start);
+    for chooser in 0..day.counts.choosers {
+        let start = chooser * day.counts.choices;
+        let found = candidate_of(level, day.mins, day.preferences, start);
         kept = keep(room, level, found, masks, set_levels, kept)?;
     }
     Some(kept)
@@ -110,32 +107,15 @@ fn keep_level(
 
 // 'Levels downwards': every set of a day that is kept. The answer is how many they are, none where there are
 // too many.
-pub(crate) fn kept_sets(
-    counts: SetsCounts,
-    mins: &[u16],
-    levels: &[u16],
-    preferences: &[u16],
-    masks: &mut [u64],
-    set_levels: &mut [u16],
-) -> Option<usize>
-    requires { let day = day_of counts mins.now levels.now preferences.now in
-        Lent 0 masks.old set_levels.old × Fits day }
-    ensures { let day = day_of counts mins.now levels.now preferences.now in
+pub(crate) fn kept_sets(day: &SetsDay, masks: &mut [u64], set_levels: &mut [u16]) -> Option<usize>
+    requires { Lent 0 masks.old set_levels.old × Fits (sets_day_lent day.now) }
+    ensures { let day = sets_day_lent day.now in
         MatchOption result (1024 < length (kept_sets day))
         (λ kept. (kept ≤ 1024) × KeptIn (kept_sets day) kept masks.new set_levels.new) }
 {
     let mut kept = 0;
-    for index in (0..levels.len()).rev() {
-        kept = keep_level(
-            counts,
-            index,
-            mins,
-            levels,
-            preferences,
-            masks,
-            set_levels,
-            kept,
-        )?;
+    for index in (0..day.levels.len()).rev() {
+        kept = keep_level(day, index, masks, set_levels, kept)?;
     }
     Some(kept)
 }

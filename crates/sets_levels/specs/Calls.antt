@@ -1,18 +1,11 @@
 -- A level's list as a call: its refusals, lowest number first, its answer and its pool.
 use Rattle.std.specs.Prelude.{◌&&◌, List, map, ℕ, eqb, leb, length}
 use Rattle.base_lists.specs.Pool.{pad}
-use Rattle.day_rows.specs.Told.{Told, done, Verdict, good, refusal_tells, unless, Outcome, outcome, judged}
+use Rattle.day_rows.specs.Told.{done, Verdict, good, unless, Outcome, outcome, judged}
 use Rattle.day_rows.specs.Levels.{levels_in_range, levels_rise}
 use Rattle.sets_analysis.specs.Kept.{CriticalSet}
 use Rattle.sets_analysis.specs.LevelList.{level_list}
 use Rattle.sets_analysis.specs.Calls.{Pools, pools_full, sets_in}
-use Rattle.sets_levels.specs.declared.level_list.Listed.{Listed}
-use Rattle.sets_levels.specs.declared.level_list.Listed.TheVariants as listed
-
--- what a level's list answers in 01's terms: how many sets it has
-abbrev pub listed_tells : Listed → Told ℕ
-listed_tells (listed.Sets count) = done count
-listed_tells (listed.Refused why) = refusal_tells why
 
 -- the refusals of a level's list: 1 for a count of sets over 1,024 or levels not 1..64, 2, 3
 unfoldable pub list_judged : List ℕ → ℕ → Pools → List ℕ → Verdict

@@ -1,7 +1,7 @@
 -- The loop's invariant: the sets of the levels so far are kept.
-use Rattle.sets_analysis.specs.SetsDay.{day_of}
+use Rattle.sets_analysis.specs.SetsDay.{sets_day_lent}
 use Rattle.sets_analysis.proofs.KeptSteps.{KeepsDown}
 use Rattle.sets_analysis.proofs.kept.kept_sets.Given as goal
 
 abbrev pub invariant-loop-index : goal.invariant-loop-index
-invariant-loop-index l = KeepsDown (day_of l.counts l.mins l.levels l.preferences) l.index l.kept l.masks l.set_levels
+invariant-loop-index l = KeepsDown (sets_day_lent l.day) l.index l.kept l.masks l.set_levels
