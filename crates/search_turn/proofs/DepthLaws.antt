@@ -14,7 +14,7 @@ use Rattle.day_rows.specs.declared.check.Counts.{Counts}
 use Rattle.search_map.specs.Map.{looked_up}
 use Rattle.search_candidates.specs.Loads.{Loads}
 use Rattle.search_candidates.specs.Bucket.{Asked, asked_of, bucket_of, Written, written, bucket_fits, fill_of}
-use Rattle.search_candidates.specs.declared.bucket.Depth.{Depth}
+use Rattle.search_candidates.specs.declared.asked.Depth.{Depth}
 use Rattle.search_rules.specs.Pass.{Lent, choice_at, next_draw}
 use Rattle.search_turn.specs.steps.Opening.{depth_from, asked_from, open_of, opening, opens_at, opened_by, opening_of}
 

@@ -6,7 +6,7 @@ ghost use Rattle.search_turn.specs.steps.Opening.{depth_from};
 use super::amount::choice_at;
 use super::lent::Lent;
 use base_pools::number::flag_of;
-use search_candidates::bucket::Depth;
+use search_candidates::asked::Depth;
 
 // Whether a depth is that of the last undecided choice.
 fn is_last(choices: usize, depth: usize) -> bool

@@ -9,7 +9,9 @@ use super::asked::depth_at;
 use super::draw::draw_after;
 use super::lent::Lent;
 use super::state::SearchState;
-use search_candidates::bucket::{Depth, Filled, fill};
+use search_candidates::asked::{Asked, Depth};
+use search_candidates::bucket::{Filled, fill};
+use search_candidates::loads::Loads;
 use search_map::map::rows_of;
 
 // Whether candidates are made: the depth is new, and the lists are those of 65 depths.
@@ -50,19 +52,20 @@ fn open_depth(
             drew: false,
         };
     }
-    let looked = rows_of(&lent.map, lent.whole, asked.choice);
-    fill(
-        lent.day.counts,
-        asked,
-        lent.day.rows,
-        looked,
-        lent.sets,
-        &state.decisions,
-        &state.slot_min,
-        &state.slot_max,
-        &state.sizes,
-        bucket,
-    )
+    let candidates = Asked {
+        counts: lent.day.counts,
+        depth: asked,
+        rows: lent.day.rows,
+        numbers: rows_of(&lent.map, lent.whole, asked.choice),
+        sets: lent.sets,
+        loads: Loads {
+            decisions: &state.decisions,
+            slot_min: &state.slot_min,
+            slot_max: &state.slot_max,
+            sizes: &state.sizes,
+        },
+    };
+    fill(&candidates, bucket)
 }
 
 // The candidates of a new depth are made in its own 25 entries, those of another are as they were left; the

@@ -1,10 +1,8 @@
 // A turn: the next candidate of the depth, or a step back where none is left.
 ghost use Rattle.std.specs.Prelude.{◌≡◌};
-ghost use Rattle.search_turn.specs.Lent.{lent_now};
-ghost use Rattle.search_turn.specs.steps.State.{closes_at, turning, turn_of};
+ghost use Rattle.search_turn.specs.steps.State.{closes_at, turning, turn_of, Words};
 
 use super::amount::{add_at, amount_at, choice_at, clear_at, decide_at, take_at};
-use super::lent::Lent;
 use super::state::SearchState;
 
 // Whether the pass ends: at depth 0 no candidate is left.
@@ -18,21 +16,22 @@ pub fn closes(depth: usize, next: &[usize; 65], end: &[usize; 65]) -> bool
 }
 
 // A step down to the next candidate, which is taken, or a step back; past the lists' ends nothing is done.
-// One way out: with an early return the compiler copies the state once more.
+// One way out: with an early return the compiler copies the state once more. What the type of both lists says
+// is promised too, for a caller that holds them in a record.
 pub fn turned(
-    lent: &Lent,
     state: SearchState,
+    mins: &[u16],
+    maxs: &[u16],
+    order: &[u8],
     candidates: &[u8; 1625],
     next: &mut [usize; 65],
     end: &[usize; 65],
 ) -> SearchState
-    ensures { let lent = lent_now lent.now in
-        let after = turn_of lent.day.mins lent.day.maxs lent.order state candidates.now next.old end.now in
+    ensures after { let after = turn_of mins.now maxs.now order.now
+        state candidates.now next.old end.now in
         turning result next.new ≡ after }
+    ensures words { Words mins.now × Words maxs.now }
 {
-    let mins = lent.day.mins;
-    let maxs = lent.day.maxs;
-    let order = lent.order;
     let mut after = state;
     let depth = after.depth;
     if depth <= 64 {

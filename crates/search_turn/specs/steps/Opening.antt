@@ -5,7 +5,7 @@ use Rattle.base_lists.specs.Pool.{window}
 use Rattle.search_map.specs.Map.{looked_up}
 use Rattle.search_candidates.specs.Loads.{Loads, loads_of}
 use Rattle.search_candidates.specs.Bucket.{Asked, asked_of, Written, written, fill_of}
-use Rattle.search_candidates.specs.declared.bucket.Depth.{Depth}
+use Rattle.search_candidates.specs.declared.asked.Depth.{Depth}
 use Rattle.search_rules.specs.Pass.{Lent, choice_at, next_draw}
 use Rattle.search_turn.specs.declared.state.SearchState.{SearchState}
 

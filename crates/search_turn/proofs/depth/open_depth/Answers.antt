@@ -7,4 +7,4 @@ returns-then-lent-depth c =
 
 pub returns : goal.returns
 returns c =
-    open_some _ _ _ _ _ _ _ _ _ _ c.if-lent-depth.false c.rows_of-looked.ensures c.fill.ensures
+    open_some _ _ _ _ _ _ _ _ _ _ c.if-lent-depth.false c.rows_of.ensures c.fill.ensures
