@@ -28,11 +28,15 @@ pub data Settled : Type 0 where
   no_plan : Figures → Settled
   out_of_turns : Figures → Settled
 
+-- what a search settles that isn't refused
+abbrev pub settled : Searched → Settled
+settled (searched.Found figures) = plan figures
+settled (searched.None figures) = no_plan figures
+settled (searched.OutOfTurns figures) = out_of_turns figures
+
 -- what the answer tells
 abbrev pub searched_tells : Result Searched Refusal → Told Settled
-searched_tells (Ok (searched.Found figures)) = done (plan figures)
-searched_tells (Ok (searched.None figures)) = done (no_plan figures)
-searched_tells (Ok (searched.OutOfTurns figures)) = done (out_of_turns figures)
+searched_tells (Ok answer) = done (settled answer)
 searched_tells (Err why) = refusal_tells why
 
 -- the figures of an ending: turns are those of the total budget that aren't left, passes are counted from 1
