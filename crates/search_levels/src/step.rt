@@ -1,10 +1,23 @@
 // What follows a pass: the call's answer, or the next pass.
 ghost use Rattle.std.specs.Prelude.{◌≡◌, cond, ◌-◌, min};
 ghost use Rattle.search_pass.specs.steps.Call.{passed_tells};
+ghost use Rattle.search_meaning.specs.Calls.{figures};
 ghost use Rattle.search_levels.specs.steps.Step.{step_tells, after_found, after_without, after_wanting, step_of};
 
-use search_meaning::answer::Searched;
+use search_meaning::answer::{Figures, Searched};
 use search_pass::pass::Passed;
+
+// A pass as a call begins it: whether it is the last level's; the turns left before it, those that it has and
+// all of the call; its number, from 1; and its limit.
+#[derive(Clone, Copy)]
+pub struct Begun {
+    pub last: bool,
+    pub left: u64,
+    pub turns: u64,
+    pub total: u64,
+    pub passes: usize,
+    pub limit: u16,
+}
 
 // The answer, or the turns left and the place of the next draw for the pass at the next level.
 #[derive(Clone, Copy)]
@@ -25,89 +38,68 @@ pub fn turns_of(last: bool, left: u64, budget: u64) -> u64
 }
 
 // The turns left of those before a pass that spared some of its own.
-fn left_after(left: u64, turns: u64, spared: u64) -> u64
-    ensures { result ≡ left - (turns - spared) }
+fn left_after(begun: Begun, spared: u64) -> u64
+    ensures { result ≡ begun.left - (begun.turns - spared) }
 {
-    left.saturating_sub(turns.saturating_sub(spared))
+    begun
+        .left
+        .saturating_sub(begun.turns.saturating_sub(spared))
+}
+
+// The figures of a call that ends with a pass and has so many turns left.
+fn figures_of(begun: Begun, left: u64) -> Figures
+    ensures { result ≡ figures (begun.total - left) begun.passes begun.limit }
+{
+    Figures {
+        turns: begun.total.saturating_sub(left),
+        passes: begun.passes,
+        limit: begun.limit,
+    }
 }
 
 // What follows a pass that found a plan: the call's answer.
-fn after_found(left: u64, turns: u64, total: u64, passes: usize, limit: u16, spared: u64) -> Step
-    ensures { step_tells result ≡ after_found left turns total passes limit spared }
+fn after_found(begun: Begun, spared: u64) -> Step
+    ensures { step_tells result ≡ after_found begun spared }
 {
-    let used = total.saturating_sub(left_after(left, turns, spared));
-    Step::Answer(Searched::Found {
-        turns: used,
-        passes,
-        limit,
-    })
+    Step::Answer(Searched::Found(figures_of(begun, left_after(begun, spared))))
 }
 
 // What follows a pass without a plan: 'after the last level the answer is none', else it 'goes to the next
 // level above'.
-fn after_without(
-    last: bool,
-    left: u64,
-    turns: u64,
-    total: u64,
-    passes: usize,
-    limit: u16,
-    spared: u64,
-    draw: usize,
-) -> Step
-    ensures { step_tells result ≡ after_without last left turns total passes limit spared draw }
+fn after_without(begun: Begun, spared: u64, draw: usize) -> Step
+    ensures { step_tells result ≡ after_without begun spared draw }
 {
-    let rest = left_after(left, turns, spared);
-    if last {
-        let used = total.saturating_sub(rest);
-        return Step::Answer(Searched::None {
-            turns: used,
-            passes,
-            limit,
-        });
+    let left = left_after(begun, spared);
+    if begun.last {
+        return Step::Answer(Searched::None(figures_of(begun, left)));
     }
-    Step::On { left: rest, draw }
+    Step::On { left, draw }
 }
 
 // What follows a pass that needed a turn that wasn't there: 'A call that needs a turn past the total budget
 // answers out of turns, before looking at the pass budget.'
-fn after_wanting(left: u64, turns: u64, total: u64, passes: usize, limit: u16, draw: usize) -> Step
-    ensures { step_tells result ≡ after_wanting left turns total passes limit draw }
+fn after_wanting(begun: Begun, draw: usize) -> Step
+    ensures { step_tells result ≡ after_wanting begun draw }
 {
-    if left <= turns {
-        return Step::Answer(Searched::OutOfTurns {
-            turns: total,
-            passes,
-            limit,
-        });
+    if begun.left <= begun.turns {
+        return Step::Answer(Searched::OutOfTurns(figures_of(begun, 0)));
     }
     Step::On {
-        left: left.saturating_sub(turns),
+        left: begun.left.saturating_sub(begun.turns),
         draw,
     }
 }
 
-// What follows a pass that had so many of the turns left, by how it ended.
-pub fn after_pass(
-    passed: Passed,
-    last: bool,
-    left: u64,
-    turns: u64,
-    total: u64,
-    passes: usize,
-    limit: u16,
-) -> Step
-    ensures { step_tells result ≡ step_of last left turns total passes limit (passed_tells passed) }
+// What follows a pass, by how it ended.
+pub fn after_pass(begun: Begun, passed: Passed) -> Step
+    ensures { step_tells result ≡ step_of begun (passed_tells passed) }
 {
     match passed {
         Passed::Found {
             left: spared,
             draw: _,
-        } => after_found(left, turns, total, passes, limit, spared),
-        Passed::Without {
-            left: spared,
-            draw: next,
-        } => after_without(last, left, turns, total, passes, limit, spared, next),
-        Passed::Wanting { draw: next } => after_wanting(left, turns, total, passes, limit, next),
+        } => after_found(begun, spared),
+        Passed::Without { left: spared, draw } => after_without(begun, spared, draw),
+        Passed::Wanting { draw } => after_wanting(begun, draw),
     }
 }

@@ -5,9 +5,11 @@ use mathlib.Core.List.{List}
 use Prim.Native.Nat.{ℕ, ◌<◌}
 use borrow.Author.Tests.{leb-true, leb-false}
 use lib.Dec.{leb}
+use Rattle.std.specs.Prelude.{Result, Ok, Err}
 use Rattle.day_rows.specs.Told.{outcome}
+use Rattle.day_rows.specs.declared.refusal.Refusal.{Refusal}
 use Rattle.search_meaning.specs.Given.{Given}
-use Rattle.search_meaning.specs.Calls.{figures, plan, no_plan, out_of_turns, searched_tells, search_of}
+use Rattle.search_meaning.specs.Calls.{plan, no_plan, out_of_turns, searched_tells, search_of}
 use Rattle.search_meaning.specs.declared.settings.Settings.{Settings}
 use Rattle.search_meaning.specs.declared.answer.Searched.{Searched}
 use Rattle.search_meaning.specs.declared.answer.Searched.TheVariants as searched
@@ -17,15 +19,15 @@ use Rattle.search_meaning.proofs.DemandHolds.{demand}
 
 module _ (given : Given) (settings : Settings) (before after : List ℕ) (full : settings.full ≡ true) (own : OwnMap given) where
   -- what `search` promises of its answer says this
-  pub answered : (answer : Searched) → outcome (searched_tells answer) after ≡ search_of given settings before → AnswerSays given settings.total_budget after answer
-  answered (searched.Found turns passes limit) e =
-      (demand given settings before full own (plan (figures turns passes limit)) after e).plan-is (figures turns passes limit) refl
-  answered (searched.None turns passes limit) e =
-      (demand given settings before full own (no_plan (figures turns passes limit)) after e).none_is (figures turns passes limit) refl
-  answered (searched.OutOfTurns turns passes limit) e =
+  pub answered : (answer : Result Searched Refusal) → outcome (searched_tells answer) after ≡ search_of given settings before → AnswerSays given settings.total_budget after answer
+  answered (Ok (searched.Found figures)) e =
+      (demand given settings before full own (plan figures) after e).plan-is figures refl
+  answered (Ok (searched.None figures)) e =
+      (demand given settings before full own (no_plan figures) after e).none_is figures refl
+  answered (Ok (searched.OutOfTurns figures)) e =
       go (leb (turns_that_settle given) settings.total_budget) refl
     where
       go : (b : Bool) → leb (turns_that_settle given) settings.total_budget ≡ b → settings.total_budget < turns_that_settle given
-      go true t = absurd ((demand given settings before full own (out_of_turns (figures turns passes limit)) after e).never-out (leb-true _ _ t) (figures turns passes limit) refl)
+      go true t = absurd ((demand given settings before full own (out_of_turns figures) after e).never-out (leb-true _ _ t) figures refl)
       go false t = leb-false _ _ t
-  answered (searched.Refused why) e = tt
+  answered (Err why) e = tt

@@ -1,7 +1,7 @@
 -- The search's refusals, a law for each way through their functions, and what isn't refused.
 use mathlib.Core.Path.{◌≡◌, refl, sym, ◌∙◌, ap}
 use mathlib.Core.Bool.{Bool, true, false, ◌&&◌}
-use mathlib.Core.List.{List, []}
+use mathlib.Core.List.{List}
 use Prim.Native.Nat.{ℕ, ◌*◌, ◌≤◌}
 use borrow.Author.Tests.{eq-eqb, ne_eqb, eqb-true, leb-true}
 use lib.Dec.{eqb, leb}
@@ -18,10 +18,10 @@ use Rattle.day_rows.specs.Levels.{levels_in_range, levels_rise, last_level}
 use Rattle.plan_check.specs.Feasible.{lengths_fit}
 use Rattle.plan_check.specs.Check.{flags_judged}
 use Rattle.sets_analysis.proofs.DaySteps.{product_few}
-use Rattle.search_map.specs.Map.{Map, map_keeps}
+use Rattle.search_map.specs.Map.{map_keeps}
 use Rattle.search_map.specs.Calls.{map_full}
 use Rattle.search_order.specs.Order.{orders_keep}
-use Rattle.search_meaning.specs.Given.{Given, given_of, row_counts}
+use Rattle.search_meaning.specs.Given.{Given, row_counts}
 use Rattle.search_meaning.specs.Judged.{search_in_range, search_lengths, day_judged, lent_judged}
 use Rattle.search_meaning.specs.steps.Lengths.{day_lengths, row_lengths}
 use Rattle.search_meaning.specs.declared.counts.SearchCounts.{SearchCounts}
@@ -78,32 +78,32 @@ module _ (counts : SearchCounts) where
 
 -- ---- the lengths, one after the other
 
-module _ (counts : SearchCounts) (mins maxs optional levels preferences before : List ℕ) where
+module _ (given : Given) (before : List ℕ) where
   -- some list hasn't an entry for each choice: the lengths are wrong
-  pub entries_differ : lengths_fit counts.choices mins maxs optional before ≡ false → false ≡ day_lengths counts mins maxs optional levels preferences before
+  pub entries_differ : lengths_fit given.counts.choices given.mins given.maxs given.optional before ≡ false → false ≡ day_lengths given before
   unfolding day_lengths
   entries_differ h = rw h
 
-  module _ (a : lengths_fit counts.choices mins maxs optional before ≡ true) where
-    pub levels_differ : (length levels ≡ counts.levels → ⊥) → false ≡ day_lengths counts mins maxs optional levels preferences before
+  module _ (a : lengths_fit given.counts.choices given.mins given.maxs given.optional before ≡ true) where
+    pub levels_differ : (length given.levels ≡ given.counts.levels → ⊥) → false ≡ day_lengths given before
     unfolding day_lengths
     levels_differ n = rw (a, ne_eqb _ _ n)
 
-    pub preferences_decide : length levels ≡ counts.levels
-        → eqb (length preferences) (counts.choosers * counts.choices) ≡ day_lengths counts mins maxs optional levels preferences before
+    pub preferences_decide : length given.levels ≡ given.counts.levels
+        → eqb (length given.preferences) (given.counts.choosers * given.counts.choices) ≡ day_lengths given before
     unfolding day_lengths
     preferences_decide e = rw (a, eq-eqb _ _ e)
 
-module _ (counts : SearchCounts) (rows : List ℕ) (map : Map) (whole : List ℕ) where
-  pub rows_differ : (length rows ≡ counts.rows → ⊥) → false ≡ row_lengths counts rows map whole
+module _ (given : Given) where
+  pub rows_differ : (length given.rows ≡ given.counts.rows → ⊥) → false ≡ row_lengths given
   unfolding row_lengths
   rows_differ n = rw (ne_eqb _ _ n)
 
-  pub map-short : length rows ≡ counts.rows → map_full map ≡ false → false ≡ row_lengths counts rows map whole
+  pub map-short : length given.rows ≡ given.counts.rows → map_full given.map ≡ false → false ≡ row_lengths given
   unfolding row_lengths
   map-short e h = rw (eq-eqb _ _ e, h)
 
-  pub whole-decides : length rows ≡ counts.rows → map_full map ≡ true → eqb (length whole) counts.rows ≡ row_lengths counts rows map whole
+  pub whole-decides : length given.rows ≡ given.counts.rows → map_full given.map ≡ true → eqb (length given.whole) given.counts.rows ≡ row_lengths given
   unfolding row_lengths
   whole-decides e h = rw (eq-eqb _ _ e, h)
 
@@ -111,10 +111,10 @@ module _ (counts : SearchCounts) (rows : List ℕ) (map : Map) (whole : List ℕ
 
 module _ (given : Given) (before : List ℕ) where
   abbrev of_day : Bool
-  of_day = day_lengths given.counts given.mins given.maxs given.optional given.levels given.preferences before
+  of_day = day_lengths given before
 
   abbrev of_rows : Bool
-  of_rows = row_lengths given.counts given.rows given.map given.whole
+  of_rows = row_lengths given
 
   -- both parts of the test of lengths make the test
   both-lengths : search_lengths given before ≡ (of_day && of_rows)
@@ -178,19 +178,6 @@ module _ (given : Given) where
       pub lent-good : map_keeps given.counts.choices given.counts.rows given.counts.numbers given.map given.whole ≡ true → good ≡ lent_judged given
       unfolding lent_judged flags_judged
       lent-good h = rw (o, f, h)
-
--- ---- neither looks at the other's lists
-
-module _ (counts : SearchCounts) (mins maxs optional levels preferences rows : List ℕ) (map : Map) (whole orders draws before : List ℕ) where
-  pub day-alone : day_judged (given_of counts mins maxs optional levels preferences rows map whole [] []) before
-      ≡ day_judged (given_of counts mins maxs optional levels preferences rows map whole orders draws) before
-  unfolding day_judged search_lengths
-  day-alone = refl
-
-  pub lent-alone : lent_judged (given_of counts [] [] optional [] [] [] map whole orders [])
-      ≡ lent_judged (given_of counts mins maxs optional levels preferences rows map whole orders draws)
-  unfolding lent_judged
-  lent-alone = refl
 
 -- ---- what isn't refused
 

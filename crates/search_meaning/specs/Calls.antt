@@ -1,6 +1,7 @@
 -- The search as a call: its refusals, lowest number first, its answer and the plan.
-use Rattle.std.specs.Prelude.{Bool, true, List, ℕ, suc, ◌-◌, leb, length}
+use Rattle.std.specs.Prelude.{Bool, true, List, ℕ, suc, ◌-◌, leb, length, Result, Ok, Err}
 use Rattle.day_rows.specs.Told.{Told, done, Verdict, refusal_tells, unless, and_then, Outcome, outcome, judged}
+use Rattle.day_rows.specs.declared.refusal.Refusal.{Refusal}
 use Rattle.sets_analysis.specs.SetsDay as sets
 use Rattle.sets_analysis.specs.Kept.{kept_sets}
 use Rattle.sets_analysis.specs.declared.analysis.Analysis.{Analysis}
@@ -11,18 +12,13 @@ use Rattle.search_meaning.specs.Judged.{day_judged, lent_judged}
 use Rattle.search_rules.specs.Passes.{Ending, found, none, out}
 use Rattle.search_meaning.specs.Search.{lent_at, ending_of}
 use Rattle.search_meaning.specs.declared.settings.Settings.{Settings}
+use Rattle.search_meaning.specs.declared.answer.Figures.{Figures}
 use Rattle.search_meaning.specs.declared.answer.Searched.{Searched}
 use Rattle.search_meaning.specs.declared.answer.Searched.TheVariants as searched
 
 -- ---- the answer
 
 -- 'The result carries turns, passes begun and the last limit'
-pub record Figures : Type 0 where
-  pub turns : ℕ
-  pub passes : ℕ
-  pub limit : ℕ
-
--- the figures of an answer
 abbrev pub figures : ℕ → ℕ → ℕ → Figures
 figures turns passes limit = record { turns = turns; passes = passes; limit = limit }
 
@@ -32,12 +28,16 @@ pub data Settled : Type 0 where
   no_plan : Figures → Settled
   out_of_turns : Figures → Settled
 
+-- what a search settles that isn't refused
+abbrev pub settled : Searched → Settled
+settled (searched.Found figures) = plan figures
+settled (searched.None figures) = no_plan figures
+settled (searched.OutOfTurns figures) = out_of_turns figures
+
 -- what the answer tells
-abbrev pub searched_tells : Searched → Told Settled
-searched_tells (searched.Found turns passes limit) = done (plan (figures turns passes limit))
-searched_tells (searched.None turns passes limit) = done (no_plan (figures turns passes limit))
-searched_tells (searched.OutOfTurns turns passes limit) = done (out_of_turns (figures turns passes limit))
-searched_tells (searched.Refused why) = refusal_tells why
+abbrev pub searched_tells : Result Searched Refusal → Told Settled
+searched_tells (Ok answer) = done (settled answer)
+searched_tells (Err why) = refusal_tells why
 
 -- the figures of an ending: turns are those of the total budget that aren't left, passes are counted from 1
 abbrev pub settled_by : ℕ → Ending → Settled

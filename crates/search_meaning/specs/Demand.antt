@@ -7,7 +7,8 @@ use Rattle.search_rules.specs.Turns.{sum_of_powers}
 use Rattle.search_map.specs.Map.{Map}
 use Rattle.search_map.specs.Calls.{own_map_of}
 use Rattle.search_meaning.specs.Given.{Given, row_counts, plan_day}
-use Rattle.search_meaning.specs.Calls.{Figures, Settled, plan, no_plan, out_of_turns, search_of}
+use Rattle.search_meaning.specs.Calls.{Settled, plan, no_plan, out_of_turns, search_of}
+use Rattle.search_meaning.specs.declared.answer.Figures.{Figures}
 use Rattle.search_meaning.specs.declared.settings.Settings.{Settings}
 
 -- the number of starts, T = (S+1) + (S+1)^2 + .. + (S+1)^C, or 0 if C is 0

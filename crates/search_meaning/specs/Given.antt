@@ -4,8 +4,9 @@ use Rattle.day_rows.specs.declared.check.Counts.{Counts}
 use Rattle.plan_check.specs.Day as plan
 use Rattle.sets_analysis.specs.SetsDay as sets
 use Rattle.sets_analysis.specs.declared.day.SetsCounts.{SetsCounts}
-use Rattle.search_map.specs.Map.{Map}
+use Rattle.search_map.specs.Map.{Map, map_lent}
 use Rattle.search_meaning.specs.declared.counts.SearchCounts.{SearchCounts}
+use Rattle.search_meaning.specs.declared.given.Given as lent
 
 -- what a search is given
 pub record Given : Type 0 where
@@ -38,6 +39,13 @@ given_of counts mins maxs optional levels preferences rows map whole orders draw
       orders = orders;
       draws = draws;
     }
+
+-- what a call is lent
+abbrev pub given_lent : lent.Given → Given
+given_lent given =
+    given_of given.counts given.mins.now given.maxs.now given.optional.now
+    given.levels.now given.preferences.now given.rows.now (map_lent given.map)
+    given.whole.now given.orders.now given.draws.now
 
 -- the counts as a check of rows takes them: C, S, H and the number of rows
 abbrev pub row_counts : SearchCounts → Counts

@@ -1,24 +1,17 @@
 // What a search answers.
-use day_rows::refusal::Refusal;
 
-// A plan is found, there is none, or turns ran out, each with 'turns, passes begun and the last limit'; or
-// why the search is refused.
+// 'The result carries turns, passes begun and the last limit'.
+#[derive(Clone, Copy)]
+pub struct Figures {
+    pub turns: u64,
+    pub passes: usize,
+    pub limit: u16,
+}
+
+// What a search that isn't refused settles: a plan is found, there is none, or turns ran out.
 #[derive(Clone, Copy)]
 pub enum Searched {
-    Found {
-        turns: u64,
-        passes: usize,
-        limit: u16,
-    },
-    None {
-        turns: u64,
-        passes: usize,
-        limit: u16,
-    },
-    OutOfTurns {
-        turns: u64,
-        passes: usize,
-        limit: u16,
-    },
-    Refused(Refusal),
+    Found(Figures),
+    None(Figures),
+    OutOfTurns(Figures),
 }

@@ -1,16 +1,16 @@
 // The search's refusals, lowest number first.
-ghost use Rattle.std.specs.Prelude.{◌≡◌, true, []};
-ghost use Rattle.day_rows.specs.Check.{checked_tells};
-ghost use Rattle.search_map.specs.Map.{map_of};
-ghost use Rattle.search_meaning.specs.Given.{given_of};
+ghost use Rattle.std.specs.Prelude.{◌≡◌, true};
+ghost use Rattle.day_rows.specs.Told.{tells};
+ghost use Rattle.search_meaning.specs.Given.{given_lent};
 ghost use Rattle.search_meaning.specs.Judged.{search_in_range, day_judged, lent_judged};
 ghost use Rattle.search_meaning.specs.steps.Lengths.{day_lengths, row_lengths};
 
 use super::counts::{SearchCounts, row_counts};
-use day_rows::check::{Checked, Takes, check_each_row, counts_in_range};
+use super::given::Given;
+use day_rows::check::{Takes, check_each_row, counts_in_range};
 use day_rows::lists::{flags_fit, last_level, levels_rise, preferences_keep};
 use day_rows::refusal::Refusal;
-use search_map::map::{MOST_NUMBERS, is_full, judge_map};
+use search_map::map::{MOST_NUMBERS, MapCounts, is_full, judge_map};
 use search_order::orders_keep;
 use sets_analysis::day::levels_in_range;
 
@@ -28,129 +28,83 @@ fn in_range(counts: SearchCounts) -> bool
 }
 
 // 2: whether what has an entry for each choice, level or preference is as long as its count.
-fn day_lengths(
-    counts: SearchCounts,
-    mins: &[u16],
-    maxs: &[u16],
-    optional: &[u8],
-    levels: &[u16],
-    preferences: &[u16],
-    plan: &[u8],
-) -> bool
-    requires { search_in_range counts ≡ true }
-    ensures { result ≡ day_lengths counts mins.now maxs.now optional.now
-        levels.now preferences.now plan.now }
+fn day_lengths(given: &Given, plan: &[u8]) -> bool
+    requires { search_in_range given.now.counts ≡ true }
+    ensures { result ≡ day_lengths (given_lent given.now) plan.now }
 {
-    if mins.len() != counts.choices {
+    let counts = given.counts;
+    if given.mins.len() != counts.choices {
         return false;
     }
-    if maxs.len() != counts.choices {
+    if given.maxs.len() != counts.choices {
         return false;
     }
-    if optional.len() != counts.choices {
+    if given.optional.len() != counts.choices {
         return false;
     }
     if plan.len() != counts.choices {
         return false;
     }
-    if levels.len() != counts.levels {
+    if given.levels.len() != counts.levels {
         return false;
     }
-    preferences.len() == counts.choosers * counts.choices
+    given.preferences.len() == counts.choosers * counts.choices
 }
 
 // 2: whether the rows, the map's pools and the whole list are as long as they have to be.
-fn row_lengths(
-    counts: SearchCounts,
-    rows: &[u64],
-    starts: &[u16],
-    lengths: &[u16],
-    numbers: &[u16],
-    whole: &[u16],
-) -> bool
-    ensures { let map = map_of starts.now lengths.now numbers.now in
-        result ≡ row_lengths counts rows.now map whole.now }
+fn row_lengths(given: &Given) -> bool
+    ensures { result ≡ row_lengths (given_lent given.now) }
 {
-    if rows.len() != counts.rows {
+    if given.rows.len() != given.counts.rows {
         return false;
     }
-    if !is_full(starts, lengths, numbers) {
+    if !is_full(&given.map) {
         return false;
     }
-    whole.len() == counts.rows
+    given.whole.len() == given.counts.rows
 }
 
 // The refusals of the day: 1, 2, 3, 4, 5 with the first bad row.
-pub fn judge_day(
-    counts: SearchCounts,
-    mins: &[u16],
-    maxs: &[u16],
-    optional: &[u8],
-    levels: &[u16],
-    preferences: &[u16],
-    rows: &[u64],
-    starts: &[u16],
-    lengths: &[u16],
-    numbers: &[u16],
-    whole: &[u16],
-    plan: &[u8],
-) -> Checked
-    ensures { let map = map_of starts.now lengths.now numbers.now in
-        let given = given_of counts mins.now maxs.now optional.now
-        levels.now preferences.now rows.now map whole.now [] [] in
-        checked_tells result ≡ day_judged given plan.now }
+pub fn judge_day(given: &Given, plan: &[u8]) -> Result<(), Refusal>
+    ensures { tells result ≡ day_judged (given_lent given.now) plan.now }
 {
-    let fits = in_range(counts);
+    let fits = in_range(given.counts);
     let is_refused = !fits;
     if is_refused {
-        return Checked::Refused(Refusal::Count);
+        return Err(Refusal::Count);
     }
-    if !day_lengths(counts, mins, maxs, optional, levels, preferences, plan) {
-        return Checked::Refused(Refusal::Length);
+    if !day_lengths(given, plan) {
+        return Err(Refusal::Length);
     }
-    if !row_lengths(counts, rows, starts, lengths, numbers, whole) {
-        return Checked::Refused(Refusal::Length);
+    if !row_lengths(given) {
+        return Err(Refusal::Length);
     }
-    if !levels_rise(levels) {
-        return Checked::Refused(Refusal::Levels);
+    if !levels_rise(given.levels) {
+        return Err(Refusal::Levels);
     }
-    if !preferences_keep(last_level(levels), preferences) {
-        return Checked::Refused(Refusal::Preference);
+    if !preferences_keep(last_level(given.levels), given.preferences) {
+        return Err(Refusal::Preference);
     }
-    check_each_row(row_counts(counts), Takes::Scheduling, rows)
+    check_each_row(row_counts(given.counts), Takes::Scheduling, given.rows)
 }
 
 // The refusals of what is lent beside the day: 8, 13, 14.
-pub fn judge_lent(
-    counts: SearchCounts,
-    optional: &[u8],
-    starts: &[u16],
-    lengths: &[u16],
-    numbers: &[u16],
-    whole: &[u16],
-    orders: &[u8],
-) -> Checked
-    ensures { let map = map_of starts.now lengths.now numbers.now in
-        let given = given_of counts [] [] optional.now [] [] []
-        map whole.now orders.now [] in
-        checked_tells result ≡ lent_judged given }
+pub fn judge_lent(given: &Given) -> Result<(), Refusal>
+    ensures { tells result ≡ lent_judged (given_lent given.now) }
 {
-    if !orders_keep(counts.choices, orders) {
-        return Checked::Refused(Refusal::Orders);
+    let counts = MapCounts {
+        choices: given.counts.choices,
+        rows: given.counts.rows,
+        numbers: given.counts.numbers,
+    };
+    if !orders_keep(counts.choices, given.orders) {
+        return Err(Refusal::Orders);
     }
-    if !flags_fit(optional) {
-        return Checked::Refused(Refusal::Optional);
+    if !flags_fit(given.optional) {
+        return Err(Refusal::Optional);
     }
-    if !judge_map(
-        counts.choices,
-        counts.rows,
-        counts.numbers,
-        starts,
-        lengths,
-        numbers,
-        whole,
-    ) {
-        return Checked::Refused(Refusal::Map);
+    if !judge_map(counts, &given.map, given.whole) {
+        return Err(Refusal::Map);
     }
-    Checked::Good
+    Ok(())
 }

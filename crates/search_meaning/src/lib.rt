@@ -4,5 +4,6 @@
 
 pub mod answer;
 pub mod counts;
+pub mod given;
 pub mod judge;
 pub mod settings;

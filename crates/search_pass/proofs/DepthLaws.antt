@@ -10,7 +10,7 @@ use lib.ListN.{length, drop}
 use Rattle.base_lists.specs.Pool.{window}
 use Rattle.search_candidates.specs.Loads.{Loads}
 use Rattle.search_candidates.specs.Bucket.{bucket_of, draws_one, Written, written, bucket_fits, fill_of}
-use Rattle.search_rules.specs.Pass.{Lent, lent_of, choice_at, remaining_at, next_draw}
+use Rattle.search_rules.specs.Pass.{Lent, choice_at, remaining_at, next_draw}
 use Rattle.search_turn.specs.steps.Opening.{depth_from, asked_from, open_of, Opening, opening, opens_at, opened_by, opening_of}
 use Rattle.search_pass.specs.steps.Taken.{Taken}
 use Rattle.search_pass.proofs.Standing.{made, Held, Opened}
@@ -28,10 +28,6 @@ drew_from lent loads depth draw = ltb depth lent.day.counts.choices && draws_one
 -- the place of the next draw once the candidates are made
 unfoldable pub draw_from : Lent → Loads → ℕ → ℕ → ℕ
 draw_from lent loads depth draw = cond (drew_from lent loads depth draw) (next_draw lent.draws draw) draw
-
--- no candidate hangs on whether the search is full or as the Rust
-abbrev pub as_full : Lent → Lent
-as_full lent = lent_of true lent.day lent.map lent.whole lent.order lent.sets lent.draws
 
 module _ (lent : Lent) (t : Taken lent) (loads : Loads) (depth draw : ℕ) where
   -- 25 entries have room for S + 1 candidates
@@ -53,12 +49,12 @@ module _ (lent : Lent) (t : Taken lent) (loads : Loads) (depth draw : ℕ) where
 
   module _ (new : Bool) (remaining : ℕ) (pool next end : List ℕ) (few : depth ≤ 64) (h : Held pool next end (made new depth)) (m : remaining ≡ remaining_at lent depth) where
     -- a depth that isn't new is left as it was
-    opening-old : new ≡ false → opening_of (as_full lent) loads new depth draw remaining pool next end ≡ opening draw pool next end
+    opening-old : new ≡ false → opening_of lent loads new depth draw remaining pool next end ≡ opening draw pool next end
     unfolding opening_of opens_at
     opening-old e = rw e
 
     -- a new depth's candidates are made
-    opening-new : new ≡ true → opening_of (as_full lent) loads new depth draw remaining pool next end
+    opening-new : new ≡ true → opening_of lent loads new depth draw remaining pool next end
         ≡ opened_by (open_of (asked_from lent loads depth draw remaining) depth (window (25 * depth) 25 pool)) lent.draws depth draw pool next end
     unfolding opening_of opens_at asked_from depth_from choice_at
     opening-new e = rw (e, le-leb _ _ few, eq-eqb _ _ h.pool-length, eq-eqb _ _ h.next-length, eq-eqb _ _ h.end-length)
@@ -68,7 +64,7 @@ module _ (lent : Lent) (t : Taken lent) (loads : Loads) (depth draw : ℕ) where
         (candidates_from lent loads depth draw ++ drop (length (candidates_from lent loads depth draw)) (window (25 * depth) 25 pool))
     wrote e = ap (λ (n : ℕ). open_of (asked_from lent loads depth draw n) depth (window (25 * depth) 25 pool)) m ∙ open_is (window (25 * depth) 25 pool) (window-size (25 * depth) 25 pool (omega (arith, h.pool-length)))
 
-    module _ (r : ℕ) (pool' next' end' : List ℕ) (same : length pool' ≡ length pool) (w : opening r pool' next' end' ≡ opening_of (as_full lent) loads new depth draw remaining pool next end) where
+    module _ (r : ℕ) (pool' next' end' : List ℕ) (same : length pool' ≡ length pool) (w : opening r pool' next' end' ≡ opening_of lent loads new depth draw remaining pool next end) where
       left_as : new ≡ false → Opened (candidates_from lent loads depth draw) (draw_from lent loads depth draw) new depth draw pool next end r pool' next' end'
       left_as e =
           let z : opening r pool' next' end' ≡ opening draw pool next end = w ∙ opening-old e in

@@ -1,7 +1,7 @@
 -- Before the walk: what remains at depth 0, and what a pass takes.
-use mathlib.Core.Path.{◌≡◌, refl, sym, ◌∙◌, ap}
+use mathlib.Core.Path.{◌≡◌, sym, ◌∙◌, ap}
 use mathlib.Core.Bool.{Bool, true, false, ◌&&◌}
-use mathlib.Core.List.{List, []}
+use mathlib.Core.List.{List}
 use Prim.Native.Nat.{ℕ, suc, ◌+◌, ◌*◌, ◌≤◌, ◌<◌}
 use native.Mathlib.Omega.{arith}
 use borrow.Author.Tests.{leb-true, eqb-true}
@@ -10,15 +10,13 @@ use lib.ListN.{length, get_or, drop, drop_of_length-le}
 use lib.Seq.{drop-cons}
 use Rattle.base_lists.specs.Keep.{sum_over}
 use Rattle.base_lists.proofs.Below.{and_left, and_right}
-use Rattle.day_rows.specs.declared.check.Counts.{Counts}
-use Rattle.plan_check.specs.Day.{day_of}
+use Rattle.plan_check.specs.Day.{Day}
 use Rattle.plan_check.specs.Feasible.{lengths_fit, shapes_fit}
-use Rattle.search_map.specs.Map.{Map}
 use Rattle.search_order.specs.Order.{is_permutation}
 use Rattle.search_order.proofs.OrderLaws.{permutation_length, below}
-use Rattle.search_rules.specs.Pass.{Lent, lent_of, remaining_at, pass_of}
+use Rattle.search_rules.specs.Pass.{Lent, remaining_at, pass_of}
 use Rattle.search_pass.specs.steps.Call.{Leaves, leaves, without, left_by, pass_fits, pass_leaves}
-use Rattle.search_pass.specs.steps.Taken.{Taken, part_of, Within}
+use Rattle.search_pass.specs.steps.Taken.{Taken, Within}
 
 -- ---- the maximums summed
 
@@ -65,73 +63,64 @@ order-few lent t = omega (arith, permutation_length _ _ t.ordered, t.few-choices
 
 -- ---- what is taken
 
-module _ (counts : Counts) (mins maxs optional order plan : List ℕ) (fits : Bool) (f : fits ≡ shapes_fit (day_of counts mins maxs optional []) plan) where
-  pub fits_not : fits ≡ false → false ≡ pass_fits (part_of counts mins maxs optional order) plan
+module _ (lent : Lent) (plan : List ℕ) (fits : Bool) (f : fits ≡ shapes_fit lent.day plan) where
+  pub fits_not : fits ≡ false → false ≡ pass_fits lent plan
   unfolding pass_fits
   fits_not e = rw (sym f, e)
 
-  pub fits-ordered : (permuted : Bool) → fits ≡ true → permuted ≡ is_permutation counts.choices order → permuted ≡ pass_fits (part_of counts mins maxs optional order) plan
+  pub fits-ordered : (permuted : Bool) → fits ≡ true → permuted ≡ is_permutation lent.day.counts.choices lent.order → permuted ≡ pass_fits lent plan
   unfolding pass_fits
   fits-ordered permuted e p = rw (sym f, e) p
 
--- the tests read no row, map, set or draw
-fits-part : (full : Bool) (counts : Counts) (mins maxs optional rows : List ℕ) (map : Map) (whole order sets draws plan : List ℕ)
-    → pass_fits (part_of counts mins maxs optional order) plan ≡ pass_fits (lent_of full (day_of counts mins maxs optional rows) map whole order sets draws) plan
-unfolding pass_fits shapes_fit
-fits-part full counts mins maxs optional rows map whole order sets draws plan = refl
-
-module _ (full : Bool) (counts : Counts) (mins maxs optional rows : List ℕ) (map : Map) (whole order sets draws plan : List ℕ) (budget draw : ℕ)
-    (fits : Bool) (f : fits ≡ pass_fits (part_of counts mins maxs optional order) plan) where
-  fits-is : pass_fits (lent_of full (day_of counts mins maxs optional rows) map whole order sets draws) plan ≡ fits
-  fits-is = sym (f ∙ fits-part full counts mins maxs optional rows map whole order sets draws plan)
-
-  pub pass-not-taken : fits ≡ false → leaves (without budget draw) plan ≡ pass_leaves (lent_of full (day_of counts mins maxs optional rows) map whole order sets draws) budget draw plan
+module _ (lent : Lent) (plan : List ℕ) (budget draw : ℕ) (fits : Bool) (f : fits ≡ pass_fits lent plan) where
+  pub pass-not-taken : fits ≡ false → leaves (without budget draw) plan ≡ pass_leaves lent budget draw plan
   unfolding pass_leaves
-  pass-not-taken e = rw (fits-is, e)
+  pass-not-taken e = rw (sym f, e)
 
-  pub pass-walked : (left : Leaves) → fits ≡ true
-      → left ≡ left_by (lent_of full (day_of counts mins maxs optional rows) map whole order sets draws) plan (pass_of (lent_of full (day_of counts mins maxs optional rows) map whole order sets draws) budget draw)
-      → left ≡ pass_leaves (lent_of full (day_of counts mins maxs optional rows) map whole order sets draws) budget draw plan
+  pub pass-walked : (left : Leaves) → fits ≡ true → left ≡ left_by lent plan (pass_of lent budget draw) → left ≡ pass_leaves lent budget draw plan
   unfolding pass_leaves
-  pass-walked left e w = rw (fits-is, e) w
+  pass-walked left e w = rw (sym f, e) w
 
 -- what the tests say of what is lent
-module _ (full : Bool) (counts : Counts) (mins maxs optional rows : List ℕ) (map : Map) (whole order sets draws plan : List ℕ)
-    (fits : pass_fits (part_of counts mins maxs optional order) plan ≡ true) where
-  h : shapes_fit (day_of counts mins maxs optional []) plan ≡ true
-  unfolding pass_fits
-  h = and_left (shapes_fit (day_of counts mins maxs optional []) plan) (is_permutation counts.choices order) fits
+module _ (lent : Lent) (plan : List ℕ) (fits : pass_fits lent plan ≡ true) where
+  abbrev day : Day
+  day = lent.day
 
-  ordered : is_permutation counts.choices order ≡ true
-  unfolding pass_fits
-  ordered = and_right (shapes_fit (day_of counts mins maxs optional []) plan) (is_permutation counts.choices order) fits
+  abbrev choices : ℕ
+  choices = lent.day.counts.choices
 
-  sizes-fit : (leb counts.choices 64 && leb counts.slots 24) ≡ true
+  h : shapes_fit day plan ≡ true
+  unfolding pass_fits
+  h = and_left (shapes_fit day plan) (is_permutation choices lent.order) fits
+
+  ordered : is_permutation choices lent.order ≡ true
+  unfolding pass_fits
+  ordered = and_right (shapes_fit day plan) (is_permutation choices lent.order) fits
+
+  sizes-fit : (leb choices 64 && leb day.counts.slots 24) ≡ true
   unfolding shapes_fit
-  sizes-fit = and_left (leb counts.choices 64 && leb counts.slots 24) (lengths_fit counts.choices mins maxs optional plan) h
+  sizes-fit = and_left (leb choices 64 && leb day.counts.slots 24) (lengths_fit choices day.mins day.maxs day.optional plan) h
 
-  lengths-fit : (eqb (length mins) counts.choices && eqb (length maxs) counts.choices && eqb (length optional) counts.choices && eqb (length plan) counts.choices) ≡ true
+  lengths-fit : (eqb (length day.mins) choices && eqb (length day.maxs) choices && eqb (length day.optional) choices && eqb (length plan) choices) ≡ true
   unfolding shapes_fit lengths_fit
-  lengths-fit = and_right (leb counts.choices 64 && leb counts.slots 24) (lengths_fit counts.choices mins maxs optional plan) h
+  lengths-fit = and_right (leb choices 64 && leb day.counts.slots 24) (lengths_fit choices day.mins day.maxs day.optional plan) h
 
-  lists-fit : (eqb (length mins) counts.choices && eqb (length maxs) counts.choices && eqb (length optional) counts.choices) ≡ true
-  lists-fit = and_left (eqb (length mins) counts.choices && eqb (length maxs) counts.choices && eqb (length optional) counts.choices) (eqb (length plan) counts.choices) lengths-fit
+  lists-fit : (eqb (length day.mins) choices && eqb (length day.maxs) choices && eqb (length day.optional) choices) ≡ true
+  lists-fit = and_left (eqb (length day.mins) choices && eqb (length day.maxs) choices && eqb (length day.optional) choices) (eqb (length plan) choices) lengths-fit
 
-  pub plan-fits : length plan ≡ counts.choices
-  plan-fits =
-      eqb-true _ _ (and_right (eqb (length mins) counts.choices && eqb (length maxs) counts.choices && eqb (length optional) counts.choices) (eqb (length plan) counts.choices) lengths-fit)
+  pub plan-fits : length plan ≡ choices
+  plan-fits = eqb-true _ _ (and_right (eqb (length day.mins) choices && eqb (length day.maxs) choices && eqb (length day.optional) choices) (eqb (length plan) choices) lengths-fit)
 
-  amounts_fit : (eqb (length mins) counts.choices && eqb (length maxs) counts.choices) ≡ true
-  amounts_fit = and_left (eqb (length mins) counts.choices && eqb (length maxs) counts.choices) (eqb (length optional) counts.choices) lists-fit
+  amounts_fit : (eqb (length day.mins) choices && eqb (length day.maxs) choices) ≡ true
+  amounts_fit = and_left (eqb (length day.mins) choices && eqb (length day.maxs) choices) (eqb (length day.optional) choices) lists-fit
 
-  pub walk-taken : Taken (lent_of full (day_of counts mins maxs optional rows) map whole order sets draws)
+  pub walk-taken : Taken lent
   walk-taken =
       record {
-        few-choices = leb-true _ _ (and_left (leb counts.choices 64) (leb counts.slots 24) sizes-fit);
-        few-slots = leb-true _ _ (and_right (leb counts.choices 64) (leb counts.slots 24) sizes-fit);
-        mins-fit = eqb-true _ _ (and_left (eqb (length mins) counts.choices) (eqb (length maxs) counts.choices) amounts_fit);
-        maxs-fit = eqb-true _ _ (and_right (eqb (length mins) counts.choices) (eqb (length maxs) counts.choices) amounts_fit);
-        optional-fits =
-            eqb-true _ _ (and_right (eqb (length mins) counts.choices && eqb (length maxs) counts.choices) (eqb (length optional) counts.choices) lists-fit);
+        few-choices = leb-true _ _ (and_left (leb choices 64) (leb day.counts.slots 24) sizes-fit);
+        few-slots = leb-true _ _ (and_right (leb choices 64) (leb day.counts.slots 24) sizes-fit);
+        mins-fit = eqb-true _ _ (and_left (eqb (length day.mins) choices) (eqb (length day.maxs) choices) amounts_fit);
+        maxs-fit = eqb-true _ _ (and_right (eqb (length day.mins) choices) (eqb (length day.maxs) choices) amounts_fit);
+        optional-fits = eqb-true _ _ (and_right (eqb (length day.mins) choices && eqb (length day.maxs) choices) (eqb (length day.optional) choices) lists-fit);
         ordered = ordered;
       }

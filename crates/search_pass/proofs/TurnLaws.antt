@@ -15,12 +15,12 @@ use Rattle.base_lists.proofs.Below.{and_left, and_right}
 use Rattle.search_rules.specs.Walk.{Sight, goal, over, on, Out, hit, dry, cut, opened, used, walk}
 use Rattle.search_rules.proofs.WalkLaws.{opened-new, opened-old, used-new, used-old, walk-goal, walk-over, walk-cut, walk_close, walk-back, walk-down, pass-walk}
 use Rattle.search_order.proofs.OrderLaws.{permutation_length, below, distinct}
-use Rattle.search_candidates.specs.Loads.{Loads, loads_of}
+use Rattle.search_candidates.specs.Loads.{Loads}
 use Rattle.search_rules.specs.Decided.{decided, loads_at}
 use Rattle.search_rules.specs.Pass.{Lent, remaining_at, depth_at, asked_at, candidates_at, draw_after, plan_of, sight_at, pass_of}
 use Rattle.search_turn.specs.steps.Seen.{sight_from}
 use Rattle.search_turn.specs.steps.State.{closes_at, turning, turn_of}
-use Rattle.search_turn.specs.steps.Opening.{depth_from, asked_from, opening, opening_of}
+use Rattle.search_turn.specs.steps.Opening.{loads_in, depth_from, asked_from, opening, opening_of}
 use Rattle.search_pass.specs.steps.Call.{leaves, found, without, wanting, left_by}
 use Rattle.search_turn.specs.declared.state.SearchState.{SearchState}
 use Rattle.search_pass.proofs.Counted.{Counted, Known, Moved}
@@ -31,7 +31,7 @@ use Rattle.search_pass.proofs.Standing.{stack_of, made, Held, Opened}
 use Rattle.search_pass.proofs.DecidedLaws.{decided-none, decided-more, later-undecided, step_back_lem}
 use Rattle.search_pass.proofs.LoadLaws.{listed, sums-listed, counts-listed, nothing-listed}
 use Rattle.search_pass.proofs.SightLaws.{sight_are}
-use Rattle.search_pass.proofs.DepthLaws.{candidates_from, drew_from, draw_from, as_full, opened_of}
+use Rattle.search_pass.proofs.DepthLaws.{candidates_from, drew_from, draw_from, opened_of}
 use Rattle.search_pass.proofs.StackLaws.{next-there, stack-empty, stack_some, stack-none, stack-taken, held-taken, held_back}
 
 -- ---- what remains
@@ -70,10 +70,6 @@ pub record Standing (lent : Lent) (whole : Out) (left : ℕ) (new : Bool) (depth
   pub remains : remaining ≡ remaining_at lent depth
   pub held : Held pool next end (made new depth)
   pub same : walk (sight_at lent) (candidates_at lent) (draw_after lent) left new places (stack_of pool next end (made new depth)) draw ≡ whole
-
--- a state's sums and counts as they are handed on
-abbrev pub loads_in : SearchState → Loads
-loads_in state = loads_of state.decisions state.slot_min state.slot_max state.sizes
 
 loads_are : (mins maxs : List ℕ) (state : SearchState) → Counted mins maxs state → loads_in state ≡ loads_at mins maxs state.decisions
 unfolding loads_at
@@ -345,7 +341,7 @@ standing_in lent whole left draw state pool next end new depth remaining d n m k
 module _ (lent : Lent) (whole : Out) (left draw : ℕ) (state : SearchState) (pool next end : List ℕ)
     (k : Standing lent whole left state.is_new state.depth draw state.remaining state pool next end) (t : Taken lent) (r : ℕ) (pool' next' end' : List ℕ)
     (kept : length pool' ≡ length pool)
-    (w : opening r pool' next' end' ≡ opening_of (as_full lent) (loads_in state) state.is_new state.depth draw state.remaining pool next end) where
+    (w : opening r pool' next' end' ≡ opening_of lent (loads_in state) state.is_new state.depth draw state.remaining pool next end) where
   few_depths : state.depth ≤ 64
   few_depths = omega (arith, k.within, t.few-choices)
 

@@ -1,15 +1,14 @@
 // One pass: turns down and back until a plan, an end, or a turn that isn't there.
 ghost use Rattle.std.specs.Prelude.{◌≡◌, ◌≤◌, length, get_or};
 ghost use Rattle.base_lists.specs.Keep.{sum_over};
-ghost use Rattle.plan_check.specs.Day.{day_of};
-ghost use Rattle.search_map.specs.Map.{map_of};
-ghost use Rattle.search_rules.specs.Pass.{lent_of, pass_of};
+ghost use Rattle.search_rules.specs.Pass.{pass_of};
+ghost use Rattle.search_turn.specs.Lent.{lent_now};
 ghost use Rattle.search_pass.specs.steps.Call.{leaves, passed_tells, left_by, pass_fits, pass_leaves};
-ghost use Rattle.search_pass.specs.steps.Taken.{Taken, part_of, Within};
+ghost use Rattle.search_pass.specs.steps.Taken.{Taken, Within};
 
-use day_rows::check::Counts;
 use search_order::is_permutation;
 use search_turn::depth::open_if_new;
+use search_turn::lent::Lent;
 use search_turn::plan::write_plan;
 use search_turn::shape::shapes_fit;
 use search_turn::sight::{Sight, sight_at};
@@ -38,36 +37,16 @@ fn all_max(order: &[u8], maxs: &[u16]) -> u32
 
 // The walk of a pass whose day and order are taken: turns until a plan, an end, or a turn that isn't there.
 // There is room for 25 candidates of each of 65 depths, and for where they go on and end.
-fn walk_pass<'a>(
-    counts: Counts,
-    full: bool,
-    mins: &[u16],
-    maxs: &[u16],
-    optional: &[u8],
-    rows: &[u64],
-    starts: &[u16],
-    lengths: &[u16],
-    numbers: &'a [u16],
-    whole: &'a [u16],
-    order: &[u8],
-    sets: &[u64],
-    draws: &[u32],
-    budget: u64,
-    first_draw: usize,
-    plan: &mut [u8],
-) -> Passed
-    requires fact { let day = day_of counts mins.now maxs.now optional.now rows.now in
-        let map = map_of starts.now lengths.now numbers.now in
-        Taken (lent_of full day map whole.now order.now sets.now draws.now) }
-    requires plan_len { length plan.old ≡ counts.choices }
-    ensures { let day = day_of counts mins.now maxs.now optional.now rows.now in
-        let map = map_of starts.now lengths.now numbers.now in
-        let lent = lent_of full day map whole.now
-        order.now sets.now draws.now in
+fn walk_pass(lent: &Lent, budget: u64, first_draw: usize, plan: &mut [u8]) -> Passed
+    requires fact { Taken (lent_now lent.now) }
+    requires plan_len { length plan.old ≡ lent.now.day.counts.choices }
+    ensures { let lent = lent_now lent.now in
         let out = pass_of lent budget first_draw in
         leaves (passed_tells result) plan.new ≡ left_by lent plan.old out }
 {
-    let mut state = SearchState::new(all_max(order, maxs));
+    let mins = lent.day.mins;
+    let maxs = lent.day.maxs;
+    let mut state = SearchState::new(all_max(lent.order, maxs));
     let mut candidates = [0u8; 1625];
     let mut next = [0usize; 65];
     let mut end = [0usize; 65];
@@ -75,16 +54,7 @@ fn walk_pass<'a>(
     let mut left = budget;
     // Turns go down and back, so that no count runs along them.
     loop {
-        match sight_at(
-            counts,
-            full,
-            mins,
-            maxs,
-            optional,
-            rows,
-            &state.decisions,
-            state.depth,
-        ) {
+        match sight_at(lent.full, &lent.day, &state.decisions, state.depth) {
             Sight::Goal => {
                 break;
             }
@@ -97,89 +67,34 @@ fn walk_pass<'a>(
             return Passed::Wanting { draw };
         }
         left -= 1;
-        draw = open_if_new(
-            counts,
-            mins,
-            maxs,
-            optional,
-            rows,
-            starts,
-            lengths,
-            numbers,
-            whole,
-            order,
-            sets,
-            draws,
-            draw,
-            state.is_new,
-            state.depth,
-            state.remaining,
-            &state.decisions,
-            &state.slot_min,
-            &state.slot_max,
-            &state.sizes,
-            &mut candidates,
-            &mut next,
-            &mut end,
-        );
+        draw = open_if_new(lent, &state, draw, &mut candidates, &mut next, &mut end);
         if closes(state.depth, &next, &end) {
             return Passed::Without { left, draw };
         }
-        state = turned(state, mins, maxs, order, &candidates, &mut next, &end);
+        state = turned(state, mins, maxs, lent.order, &candidates, &mut next, &end);
     }
     write_plan(&state.decisions, plan);
     Passed::Found { left, draw }
 }
 
 // Whether what is lent is taken: a day's shape, and an order that is a permutation of the choices.
-fn pass_fits(
-    counts: Counts,
-    mins: &[u16],
-    maxs: &[u16],
-    optional: &[u8],
-    order: &[u8],
-    plan: &[u8],
-) -> bool
-    ensures { let lent = part_of counts mins.now maxs.now optional.now order.now in
-        result ≡ pass_fits lent plan.now }
+fn pass_fits(lent: &Lent, plan: &[u8]) -> bool
+    ensures { result ≡ pass_fits (lent_now lent.now) plan.now }
 {
-    if !shapes_fit(counts, mins, maxs, optional, plan) {
+    if !shapes_fit(&lent.day, plan) {
         return false;
     }
-    is_permutation(counts.choices, order)
+    is_permutation(lent.day.counts.choices, lent.order)
 }
 
 // A pass over the choices in the given order, for callers that have judged their day: of what a call judges
 // only C, S and lengths are tested here, and the order.
-pub fn run_pass<'a>(
-    counts: Counts,
-    full: bool,
-    mins: &[u16],
-    maxs: &[u16],
-    optional: &[u8],
-    rows: &[u64],
-    starts: &[u16],
-    lengths: &[u16],
-    numbers: &'a [u16],
-    whole: &'a [u16],
-    order: &[u8],
-    sets: &[u64],
-    draws: &[u32],
-    budget: u64,
-    draw: usize,
-    plan: &mut [u8],
-) -> Passed
-    ensures { let day = day_of counts mins.now maxs.now optional.now rows.now in
-        let map = map_of starts.now lengths.now numbers.now in
-        let lent = lent_of full day map whole.now
-        order.now sets.now draws.now in
-        leaves (passed_tells result) plan.new ≡ pass_leaves lent budget draw plan.old }
+pub fn run_pass(lent: &Lent, budget: u64, draw: usize, plan: &mut [u8]) -> Passed
+    ensures { leaves (passed_tells result) plan.new
+        ≡ pass_leaves (lent_now lent.now) budget draw plan.old }
 {
-    if !pass_fits(counts, mins, maxs, optional, order, plan) {
+    if !pass_fits(lent, plan) {
         return Passed::Without { left: budget, draw };
     }
-    walk_pass(
-        counts, full, mins, maxs, optional, rows, starts, lengths, numbers, whole, order, sets,
-        draws, budget, draw, plan,
-    )
+    walk_pass(lent, budget, draw, plan)
 }

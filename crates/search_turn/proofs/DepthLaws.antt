@@ -11,13 +11,12 @@ use lib.ListN.{length, get_or, set, take, drop, length-append}
 use Rattle.base_lists.specs.Pool.{window}
 use Rattle.base_lists.proofs.Below.{and_left, and_right}
 use Rattle.day_rows.specs.declared.check.Counts.{Counts}
-use Rattle.plan_check.specs.Day.{day_of}
-use Rattle.search_map.specs.Map.{Map, looked_up}
+use Rattle.search_map.specs.Map.{looked_up}
 use Rattle.search_candidates.specs.Loads.{Loads}
 use Rattle.search_candidates.specs.Bucket.{Asked, asked_of, bucket_of, Written, written, bucket_fits, fill_of}
-use Rattle.search_candidates.specs.declared.bucket.Depth.{Depth}
-use Rattle.search_rules.specs.Pass.{lent_of, choice_at, next_draw}
-use Rattle.search_turn.specs.steps.Opening.{depth_from, part_of, asked_from, open_of, opening, opens_at, opened_by, opening_of}
+use Rattle.search_candidates.specs.declared.asked.Depth.{Depth}
+use Rattle.search_rules.specs.Pass.{Lent, choice_at, next_draw}
+use Rattle.search_turn.specs.steps.Opening.{depth_from, asked_from, open_of, opening, opens_at, opened_by, opening_of}
 
 -- ---- a depth's own numbers
 
@@ -25,12 +24,11 @@ abbrev depth_of : ℕ → ℕ → ℕ → ℕ → Bool → ℕ → ℕ → Depth
 depth_of choice min max optional last remaining draw =
     record { choice = choice; min = min; max = max; optional = optional; last = last; remaining = remaining; draw = draw }
 
-module _ (counts : Counts) (mins maxs optional order draws : List ℕ) where
-  pub depth_is : (depth draw remaining choice min max flag drawn : ℕ) (last : Bool) → choice ≡ get_or order depth 0
-      → min ≡ get_or mins choice 0 → max ≡ get_or maxs choice 0 → flag ≡ get_or optional choice 0 → last ≡ eqb (suc depth) counts.choices → drawn ≡ get_or draws draw 0
-      → depth_of choice min max flag last remaining drawn ≡ depth_from (part_of counts mins maxs optional order draws) depth draw remaining
-  unfolding depth_from choice_at
-  depth_is depth draw remaining choice min max flag drawn last ec em ex ef el ed = rw (em, ex, ef, el, ed, ec)
+pub depth_is : (lent : Lent) (depth draw remaining choice min max flag drawn : ℕ) (last : Bool) → choice ≡ get_or lent.order depth 0
+    → min ≡ get_or lent.day.mins choice 0 → max ≡ get_or lent.day.maxs choice 0 → flag ≡ get_or lent.day.optional choice 0 → last ≡ eqb (suc depth) lent.day.counts.choices → drawn ≡ get_or lent.draws draw 0
+    → depth_of choice min max flag last remaining drawn ≡ depth_from lent depth draw remaining
+unfolding depth_from choice_at
+depth_is lent depth draw remaining choice min max flag drawn last ec em ex ef el ed = rw (em, ex, ef, el, ed, ec)
 
 -- ---- what is asked for
 
@@ -119,30 +117,30 @@ room_of new depth pool next end e =
 
 -- ---- a depth opened
 
-module _ (counts : Counts) (mins maxs optional rows : List ℕ) (map : Map) (whole order sets draws : List ℕ) (loads : Loads) (new : Bool) (depth draw remaining : ℕ) (pool next end : List ℕ) where
+module _ (lent : Lent) (loads : Loads) (new : Bool) (depth draw remaining : ℕ) (pool next end : List ℕ) where
   -- what opening a depth doesn't take stays as it was
   pub opening-left : false ≡ opens_at new depth (length pool) (length next) (length end)
-      → opening draw pool next end ≡ opening_of (lent_of true (day_of counts mins maxs optional rows) map whole order sets draws) loads new depth draw remaining pool next end
+      → opening draw pool next end ≡ opening_of lent loads new depth draw remaining pool next end
   unfolding opening_of
   opening-left e = rw (sym e)
 
   -- what is asked for is the depth's
-  asked_is : (asked : Depth) → asked ≡ depth_from (part_of counts mins maxs optional order draws) depth draw remaining
-      → asked_of counts asked rows (looked_up map whole asked.choice) sets loads ≡ asked_from (lent_of true (day_of counts mins maxs optional rows) map whole order sets draws) loads depth draw remaining
+  asked_is : (asked : Depth) → asked ≡ depth_from lent depth draw remaining
+      → asked_of lent.day.counts asked lent.day.rows (looked_up lent.map lent.whole asked.choice) lent.sets loads ≡ asked_from lent loads depth draw remaining
   unfolding asked_from depth_from choice_at
-  asked_is asked e = ap (λ (d : Depth). asked_of counts d rows (looked_up map whole d.choice) sets loads) e
+  asked_is asked e = ap (λ (d : Depth). asked_of lent.day.counts d lent.day.rows (looked_up lent.map lent.whole d.choice) lent.sets loads) e
 
   pub opening-made : (asked : Depth) (r count : ℕ) (drew : Bool) (bucket : List ℕ) → true ≡ opens_at new depth (length pool) (length next) (length end)
-      → asked ≡ depth_from (part_of counts mins maxs optional order draws) depth draw remaining
-      → written count drew bucket ≡ open_of (asked_of counts asked rows (looked_up map whole asked.choice) sets loads) depth (mid_of (25 * depth) (25 * depth + 25 - 25 * depth) pool)
-      → r ≡ cond drew (next_draw draws draw) draw
+      → asked ≡ depth_from lent depth draw remaining
+      → written count drew bucket ≡ open_of (asked_of lent.day.counts asked lent.day.rows (looked_up lent.map lent.whole asked.choice) lent.sets loads) depth (mid_of (25 * depth) (25 * depth + 25 - 25 * depth) pool)
+      → r ≡ cond drew (next_draw lent.draws draw) draw
       → opening r (put_mid (25 * depth) (25 * depth + 25 - 25 * depth) pool bucket) (set next depth (25 * depth)) (set end depth (25 * depth + count))
-      ≡ opening_of (lent_of true (day_of counts mins maxs optional rows) map whole order sets draws) loads new depth draw remaining pool next end
+      ≡ opening_of lent loads new depth draw remaining pool next end
   unfolding opening_of opened_by window
   opening-made asked r count drew bucket t a w d =
       let n : 25 * depth + 25 - 25 * depth ≡ 25 = omega arith in
-      let made : written count drew bucket ≡ open_of (asked_from (lent_of true (day_of counts mins maxs optional rows) map whole order sets draws) loads depth draw remaining) depth (window (25 * depth) 25 pool)
+      let made : written count drew bucket ≡ open_of (asked_from lent loads depth draw remaining) depth (window (25 * depth) 25 pool)
       = w ∙ ap₂ (λ (x : Asked) (k : ℕ). open_of x depth (take k (drop (25 * depth) pool))) (asked_is asked a) n in
       rw (sym t, sym made, d)
-      (ap (λ (l : List ℕ). opening (cond drew (next_draw draws draw) draw) (take (25 * depth) pool ++ (bucket ++ l)) (set next depth (25 * depth)) (set end depth (25 * depth + count)))
+      (ap (λ (l : List ℕ). opening (cond drew (next_draw lent.draws draw) draw) (take (25 * depth) pool ++ (bucket ++ l)) (set next depth (25 * depth)) (set end depth (25 * depth + count)))
       (Post-is (25 * depth) (25 * depth + 25) pool (omega arith)))

@@ -1,29 +1,29 @@
 // The shape of a day and its plan.
-ghost use Rattle.std.specs.Prelude.{◌≡◌, []};
-ghost use Rattle.plan_check.specs.Day.{day_of};
+ghost use Rattle.std.specs.Prelude.{◌≡◌};
+ghost use Rattle.plan_check.specs.Day.{day_lent};
 ghost use Rattle.plan_check.specs.Feasible.{shapes_fit};
 
-use day_rows::check::Counts;
+use plan_check::day::Day;
 
 // Whether C and S are within their limits, and each list has an entry for each choice.
-pub fn shapes_fit(counts: Counts, mins: &[u16], maxs: &[u16], optional: &[u8], plan: &[u8]) -> bool
-    ensures { let day = day_of counts mins.now maxs.now optional.now [] in
-        result ≡ shapes_fit day plan.now }
+pub fn shapes_fit(day: &Day, plan: &[u8]) -> bool
+    ensures { result ≡ shapes_fit (day_lent day.now) plan.now }
 {
-    if 64 < counts.choices {
+    let choices = day.counts.choices;
+    if 64 < choices {
         return false;
     }
-    if 24 < counts.slots {
+    if 24 < day.counts.slots {
         return false;
     }
-    if mins.len() != counts.choices {
+    if day.mins.len() != choices {
         return false;
     }
-    if maxs.len() != counts.choices {
+    if day.maxs.len() != choices {
         return false;
     }
-    if optional.len() != counts.choices {
+    if day.optional.len() != choices {
         return false;
     }
-    plan.len() == counts.choices
+    plan.len() == choices
 }

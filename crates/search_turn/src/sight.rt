@@ -1,11 +1,11 @@
 // What stands at the places decided.
 ghost use Rattle.std.specs.Prelude.{◌≡◌, cond, eqb};
-ghost use Rattle.plan_check.specs.Day.{day_of};
+ghost use Rattle.plan_check.specs.Day.{day_lent};
 ghost use Rattle.search_rules.specs.Walk.{goal, over, on};
 ghost use Rattle.search_turn.specs.steps.Seen.{sight_tells, sight_from};
 
 use super::plan::front;
-use day_rows::check::Counts;
+use plan_check::day::Day;
 use plan_check::feasible::is_feasible;
 
 // A plan that passes, the end of the pass, or neither.
@@ -43,26 +43,16 @@ fn sight_as_the_rust(slots: usize, passes: bool) -> Sight
 }
 
 // What stands at the places decided: 'At depth C the plan check decides.'
-pub fn sight_at(
-    counts: Counts,
-    full: bool,
-    mins: &[u16],
-    maxs: &[u16],
-    optional: &[u8],
-    rows: &[u64],
-    decisions: &[u8],
-    depth: usize,
-) -> Sight
-    ensures { let day = day_of counts mins.now maxs.now optional.now rows.now in
-        sight_tells result ≡ sight_from full day decisions.now depth }
+pub fn sight_at(full: bool, day: &Day, decisions: &[u8], depth: usize) -> Sight
+    ensures { sight_tells result ≡ sight_from full (day_lent day.now) decisions.now depth }
 {
-    if depth < counts.choices {
+    let choices = day.counts.choices;
+    if depth < choices {
         return Sight::On;
     }
-    let plan = front(decisions, counts.choices);
-    let passes = is_feasible(counts, mins, maxs, optional, rows, plan);
+    let passes = is_feasible(day, front(decisions, choices));
     if full {
-        return sight_full(counts.choices, passes);
+        return sight_full(choices, passes);
     }
-    sight_as_the_rust(counts.slots, passes)
+    sight_as_the_rust(day.counts.slots, passes)
 }

@@ -1,6 +1,6 @@
 // A turn: the next candidate of the depth, or a step back where none is left.
 ghost use Rattle.std.specs.Prelude.{◌≡◌};
-ghost use Rattle.search_turn.specs.steps.State.{closes_at, turning, turn_of};
+ghost use Rattle.search_turn.specs.steps.State.{closes_at, turning, turn_of, Words};
 
 use super::amount::{add_at, amount_at, choice_at, clear_at, decide_at, take_at};
 use super::state::SearchState;
@@ -16,7 +16,8 @@ pub fn closes(depth: usize, next: &[usize; 65], end: &[usize; 65]) -> bool
 }
 
 // A step down to the next candidate, which is taken, or a step back; past the lists' ends nothing is done.
-// One way out: with an early return the compiler copies the state once more.
+// One way out: with an early return the compiler copies the state once more. What the type of both lists says
+// is promised too, for a caller that holds them in a record.
 pub fn turned(
     state: SearchState,
     mins: &[u16],
@@ -26,9 +27,10 @@ pub fn turned(
     next: &mut [usize; 65],
     end: &[usize; 65],
 ) -> SearchState
-    ensures { let after = turn_of mins.now maxs.now order.now
+    ensures after { let after = turn_of mins.now maxs.now order.now
         state candidates.now next.old end.now in
         turning result next.new ≡ after }
+    ensures words { Words mins.now × Words maxs.now }
 {
     let mut after = state;
     let depth = after.depth;

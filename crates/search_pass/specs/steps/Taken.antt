@@ -1,10 +1,7 @@
 -- What a pass is lent, once its tests took it.
-use Rattle.std.specs.Prelude.{◌≡◌, true, List, [], ℕ, ◌≤◌, ◌<◌, length, get_or}
-use Rattle.day_rows.specs.declared.check.Counts.{Counts}
-use Rattle.plan_check.specs.Day.{day_of}
-use Rattle.search_map.specs.Map.{map_of}
+use Rattle.std.specs.Prelude.{◌≡◌, true, List, ℕ, ◌≤◌, ◌<◌, length, get_or}
 use Rattle.search_order.specs.Order.{is_permutation}
-use Rattle.search_rules.specs.Pass.{Lent, lent_of}
+use Rattle.search_rules.specs.Pass.{Lent}
 
 -- what a pass is lent is taken: at most 64 choices and 24 slots, an entry for each choice, and an order of
 -- the choices
@@ -15,11 +12,6 @@ pub record Taken (lent : Lent) : Type 0 where
   pub maxs-fit : length lent.day.maxs ≡ lent.day.counts.choices
   pub optional-fits : length lent.day.optional ≡ lent.day.counts.choices
   pub ordered : is_permutation lent.day.counts.choices lent.order ≡ true
-
--- what the tests read of what a pass is lent
-abbrev pub part_of : Counts → List ℕ → List ℕ → List ℕ → List ℕ → Lent
-part_of counts mins maxs optional order =
-    lent_of true (day_of counts mins maxs optional []) (map_of [] [] []) [] order [] []
 
 -- every entry of a list is below a bound
 unfoldable pub Within : List ℕ → ℕ → Type 0

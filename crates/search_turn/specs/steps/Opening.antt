@@ -1,14 +1,13 @@
 -- The candidates of a new depth, by the sums and counts as the code has them, and by what remains as it has
 -- it.
-use Rattle.std.specs.Prelude.{Bool, true, false, ◌&&◌, cond, List, [], ◌++◌, ℕ, suc, ◌+◌, ◌*◌, eqb, ltb, leb, length, get_or, set, take, drop}
+use Rattle.std.specs.Prelude.{Bool, false, ◌&&◌, cond, List, ◌++◌, ℕ, suc, ◌+◌, ◌*◌, eqb, ltb, leb, length, get_or, set, take, drop}
 use Rattle.base_lists.specs.Pool.{window}
-use Rattle.day_rows.specs.declared.check.Counts.{Counts}
-use Rattle.plan_check.specs.Day.{day_of}
-use Rattle.search_map.specs.Map.{map_of, looked_up}
-use Rattle.search_candidates.specs.Loads.{Loads}
+use Rattle.search_map.specs.Map.{looked_up}
+use Rattle.search_candidates.specs.Loads.{Loads, loads_of}
 use Rattle.search_candidates.specs.Bucket.{Asked, asked_of, Written, written, fill_of}
-use Rattle.search_candidates.specs.declared.bucket.Depth.{Depth}
-use Rattle.search_rules.specs.Pass.{Lent, lent_of, choice_at, next_draw}
+use Rattle.search_candidates.specs.declared.asked.Depth.{Depth}
+use Rattle.search_rules.specs.Pass.{Lent, choice_at, next_draw}
+use Rattle.search_turn.specs.declared.state.SearchState.{SearchState}
 
 -- a depth as its candidates are asked for, by what remains as the code has it
 unfoldable pub depth_from : Lent → ℕ → ℕ → ℕ → Depth
@@ -23,10 +22,9 @@ depth_from lent depth draw remaining =
       draw = get_or lent.draws draw 0;
     }
 
--- what a depth's own numbers are read from
-abbrev pub part_of : Counts → List ℕ → List ℕ → List ℕ → List ℕ → List ℕ → Lent
-part_of counts mins maxs optional order draws =
-    lent_of true (day_of counts mins maxs optional []) (map_of [] [] []) [] order [] draws
+-- a state's decisions, sums and counts
+abbrev pub loads_in : SearchState → Loads
+loads_in state = loads_of state.decisions state.slot_min state.slot_max state.sizes
 
 -- what the candidates of a depth are made from: the depth, its looked-up rows, the sets and what is decided
 unfoldable pub asked_from : Lent → Loads → ℕ → ℕ → ℕ → Asked

@@ -1,5 +1,5 @@
 -- A state of the search and its turns, on any input.
-use Rattle.std.specs.Prelude.{Bool, true, false, ◌&&◌, cond, List, ℕ, ◌+◌, ◌-◌, ◌^◌, eqb, ltb, leb, get_or, set}
+use Rattle.std.specs.Prelude.{Bool, true, false, ◌&&◌, cond, List, ℕ, ◌+◌, ◌-◌, ◌^◌, ◌≤◌, eqb, ltb, leb, get_or, set}
 use Rattle.search_turn.specs.declared.state.SearchState.{SearchState}
 
 -- ---- sums
@@ -15,6 +15,10 @@ more_at sums slot amount = cond (leb 24 slot) sums (set sums slot (more_of (get_
 -- the sums with an amount less at a slot; past the slots as they are
 unfoldable pub less_at : List ℕ → ℕ → ℕ → List ℕ
 less_at sums slot amount = cond (leb 24 slot) sums (set sums slot (get_or sums slot 0 - amount))
+
+-- every entry of a list is at most what 16 bits hold
+abbrev pub Words : List ℕ → Type 0
+Words list = (i : ℕ) → get_or list i 0 ≤ 65535
 
 -- ---- decisions
 

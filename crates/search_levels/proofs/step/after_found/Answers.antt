@@ -3,4 +3,4 @@ use Rattle.search_levels.proofs.StepSteps.{answer-found}
 use Rattle.search_levels.proofs.step.after_found.Goals as goal
 
 pub returns : goal.returns
-returns c = let s = c in answer-found s.args.left s.args.turns s.args.total s.args.passes s.args.limit s.args.spared c.left_after.ensures c.saturating_sub-used.ensures
+returns c = answer-found c.args.begun _ c.left_after.ensures c.figures_of.ensures

@@ -38,16 +38,16 @@ pub overflow_sub-left : goal.overflow_sub-left
 overflow_sub-left c =
     omega (arith, c.if-left-eq0.false)
 
-pub slice_bounds-open_if_new-end-in-loop-left-4 : goal.slice_bounds-open_if_new-end-in-loop-left-4
-slice_bounds-open_if_new-end-in-loop-left-4 c =
+pub slice_bounds-open_if_new-end : goal.slice_bounds-open_if_new-end
+slice_bounds-open_if_new-end c =
     sym c.loop-left.invariant.0.held.pool-length
 
-pub slice_bounds-open_if_new-end-in-loop-left-5 : goal.slice_bounds-open_if_new-end-in-loop-left-5
-slice_bounds-open_if_new-end-in-loop-left-5 c =
+pub slice_bounds-open_if_new-end-in-loop-left : goal.slice_bounds-open_if_new-end-in-loop-left
+slice_bounds-open_if_new-end-in-loop-left c =
     sym c.loop-left.invariant.0.held.next-length
 
-pub slice_bounds-open_if_new-end-in-loop-left-6 : goal.slice_bounds-open_if_new-end-in-loop-left-6
-slice_bounds-open_if_new-end-in-loop-left-6 c =
+pub slice_bounds-open_if_new-end-in-loop-left-2 : goal.slice_bounds-open_if_new-end-in-loop-left-2
+slice_bounds-open_if_new-end-in-loop-left-2 c =
     sym c.loop-left.invariant.0.held.end-length
 
 pub returns-then-closes : goal.returns-then-closes
@@ -60,7 +60,7 @@ loop-left-smaller c =
 
 pub loop-left-preserved : goal.loop-left-preserved
 loop-left-preserved c =
-    (at_turn _ _ _ _ _ _ _ _ c.loop-left.invariant.0 c.loop-left.invariant.1 _ _ _ _ c.open_if_new-draw.auto.candidates c.open_if_new-draw.ensures _ c.closes.ensures c.if-closes.false (λ i. omega (arith, c.type_inv.mins i)) (λ i. omega (arith, c.type_inv.maxs i)) _ _ (sym (ap sight_tells c.in-On.is) ∙ c.sight_at.ensures) (omega (arith, c.if-left-eq0.false)) c.turned-state.ensures, c.loop-left.invariant.1)
+    (at_turn _ _ _ _ _ _ _ _ c.loop-left.invariant.0 c.loop-left.invariant.1 _ _ _ _ c.open_if_new-draw.auto.candidates c.open_if_new-draw.ensures _ c.closes.ensures c.if-closes.false c.turned-state.ensures.words.0 c.turned-state.ensures.words.1 _ _ (sym (ap sight_tells c.in-On.is) ∙ c.sight_at.ensures) (omega (arith, c.if-left-eq0.false)) c.turned-state.ensures.after, c.loop-left.invariant.1)
 
 pub shape_of-plan : goal.shape_of-plan
 shape_of-plan c =

@@ -4,4 +4,4 @@ use Rattle.search_turn.proofs.asked.depth_at.Goals as goal
 
 pub returns : goal.returns
 returns c =
-    depth_is _ _ _ _ _ _ _ _ _ _ _ _ _ _ _ c.choice_at-choice.ensures (search rules) (search rules) c.flag_of.ensures c.is_last.ensures (search rules)
+    depth_is _ _ _ _ _ _ _ _ _ _ c.choice_at-choice.ensures (search rules) (search rules) c.flag_of.ensures c.is_last.ensures (search rules)

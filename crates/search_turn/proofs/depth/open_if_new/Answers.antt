@@ -5,14 +5,14 @@ use Rattle.search_turn.proofs.depth.open_if_new.Goals as goal
 
 pub returns-then-not-opens : goal.returns-then-not-opens
 returns-then-not-opens c =
-    opening-left _ _ _ _ _ _ _ _ _ _ _ _ _ _ _ _ _ _ (sym (c.if-not-opens.true) ∙ c.opens.ensures)
+    opening-left _ _ _ _ _ _ _ _ _ (sym (c.if-not-opens.true) ∙ c.opens.ensures)
 
 pub overflow_mul-start : goal.overflow_mul-start
 overflow_mul-start c =
     omega (arith, (room_of _ _ _ _ _ (sym (c.if-not-opens.false) ∙ c.opens.ensures)).few)
 
-pub overflow_add-start : goal.overflow_add-start
-overflow_add-start c =
+pub overflow_add-bucket : goal.overflow_add-bucket
+overflow_add-bucket c =
     omega (arith, (room_of _ _ _ _ _ (sym (c.if-not-opens.false) ∙ c.opens.ensures)).few)
 
 pub offset_bounds-next-depth : goal.offset_bounds-next-depth
@@ -28,7 +28,7 @@ pub overflow_add-end : goal.overflow_add-end
 overflow_add-end c =
     let room = room_of _ _ _ _ _ (sym (c.if-not-opens.false) ∙ c.opens.ensures) in
     let here = c.args in
-    omega (arith, room.few, count_fits _ here.depth here.candidates.now _ _ _ (omega (arith, room.few, room.pool-length)) c.open_depth-filled.ensures c.open_depth-filled.auto.bucket)
+    omega (arith, room.few, count_fits _ here.state.now.depth here.candidates.now _ _ _ (omega (arith, room.few, room.pool-length)) c.open_depth-filled.ensures c.open_depth-filled.auto.bucket)
 
 pub offset_bounds-end-depth : goal.offset_bounds-end-depth
 offset_bounds-end-depth c =
@@ -41,9 +41,9 @@ bounds-end-depth c =
 
 pub returns : goal.returns
 returns c =
-    opening-made _ _ _ _ _ _ _ _ _ _ _ _ _ _ _ _ _ _ _ _ _ _ _ (sym (c.if-not-opens.false) ∙ c.opens.ensures) c.depth_at-asked.ensures c.open_depth-filled.ensures c.draw_after.ensures
+    opening-made _ _ _ _ _ _ _ _ _ _ _ _ _ _ (sym (c.if-not-opens.false) ∙ c.opens.ensures) c.depth_at-asked.ensures c.open_depth-filled.ensures c.draw_after.ensures
 
-pub slice_bounds-open_depth-end : goal.slice_bounds-open_depth-end
-slice_bounds-open_depth-end c =
+pub slice_bounds-bucket-end : goal.slice_bounds-bucket-end
+slice_bounds-bucket-end c =
     let room = room_of _ _ _ _ _ (sym (c.if-not-opens.false) ∙ c.opens.ensures) in
     omega (arith, room.few, room.pool-length)
