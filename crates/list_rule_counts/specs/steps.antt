@@ -1,3 +1,4 @@
 -- The code's own steps, which contracts of functions below the calls need: nothing here is a rule of 01.
 pub mod CountRule
 pub mod Figures
+pub mod Lent

@@ -2,18 +2,19 @@
 // whether some slot can't have both.
 ghost use Rattle.std.specs.Prelude.{◌≡◌, false, not, ◌+◌, ◌-◌, ◌≤◌, ◌<◌, ltb, get_or, replicate};
 ghost use Rattle.base_lists.specs.Below.{all_below};
-ghost use Rattle.list_tables.specs.steps.Tables.{entry_at, written};
+ghost use Rattle.list_tables.specs.steps.Tables.{written};
+ghost use Rattle.plan_check.specs.Day.{day_lent};
 ghost use Rattle.list_rule_tables.specs.steps.Figures.{first_in};
-ghost use Rattle.list_rule_counts.specs.steps.CountRule.{has_limit, wants_of, rooms_of, broken};
+ghost use Rattle.list_rule_counts.specs.steps.CountRule.{has_limit, rooms_of};
 ghost use Rattle.list_rule_counts.specs.steps.Figures.{beyond_in};
+ghost use Rattle.list_rule_counts.specs.steps.Lent.{broken_by, wants_by};
 
 use super::counts::{least_counts, settled_counts};
 use super::limits::limit_by_rows;
-use day_rows::check::Counts;
 use day_rows::kind::Kind;
 use day_rows::row::Row;
-use list_rule_tables::figures::first_in;
-use list_tables::shape::TABLES;
+use list_rule_tables::figures::{Figures, first_in};
+use plan_check::day::Day;
 
 // Whether some slot's least count is one that it can't have; at least how many free choices stand in each
 // slot, and fewer than how many.
@@ -71,62 +72,48 @@ fn no_bounds() -> Bounds
 }
 
 // The bounds of a day whose slots and choices the arrays hold.
-fn fitting_bounds(
-    counts: Counts,
-    rows: &[u64],
-    tables: &[u16; TABLES],
-    from: usize,
-    lacks: &[usize; 24],
-    domains: &[u64; 64],
-) -> Bounds
-    requires { (counts.choices ≤ 64) × (counts.slots ≤ 24) }
-    ensures broken_value { let entry = entry_at tables.now in
-        let lack = lacks.now in
-        result.broken ≡ broken entry counts rows.now from lack domains.now }
-    ensures wants_value { let entry = entry_at tables.now in
-        let lack = lacks.now in
-        result.wants ≡ wants_of entry counts rows.now from lack domains.now }
-    ensures rooms_value { result.rooms ≡ rooms_of counts rows.now domains.now }
+fn fitting_bounds(day: &Day, figures: &Figures, from: usize, domains: &[u64; 64]) -> Bounds
+    requires { (day.now.counts.choices ≤ 64) × (day.now.counts.slots ≤ 24) }
+    ensures broken_value { let day = day_lent day.now in
+        result.broken ≡ broken_by figures.now day.counts day.rows from domains.now }
+    ensures wants_value { let day = day_lent day.now in
+        result.wants ≡ wants_by figures.now day.counts day.rows from domains.now }
+    ensures rooms_value { let day = day_lent day.now in
+        result.rooms ≡ rooms_of day.counts day.rows domains.now }
 {
-    let settled = settled_counts(counts.slots, counts.choices, domains);
-    let mut least = least_counts(counts.slots, from, lacks, tables, &settled);
+    let slots = day.counts.slots;
+    let settled = settled_counts(slots, day.counts.choices, domains);
+    let mut least = least_counts(slots, figures, from, &settled);
     // The first count that a slot can't have is past every limit before any, so that a slot without limits has
     // room for every choice.
     let mut under = [65537usize; 24];
-    limit_by_rows(rows, &mut least, &mut under);
+    limit_by_rows(day.rows, &mut least, &mut under);
     Bounds {
-        broken: some_crossed(counts.slots, &least, &under),
-        wants: each_beyond(counts.slots, &least, &settled),
-        rooms: each_beyond(counts.slots, &under, &settled),
+        broken: some_crossed(slots, &least, &under),
+        wants: each_beyond(slots, &least, &settled),
+        rooms: each_beyond(slots, &under, &settled),
     }
 }
 
 // The bounds by the free choices, what the slots lack and the domains; of a day of another shape
 // nothing is broken, and all are 0.
-pub fn bounds_of(
-    counts: Counts,
-    rows: &[u64],
-    tables: &[u16; TABLES],
-    free: u64,
-    lacks: &[usize; 24],
-    domains: &[u64; 64],
-) -> Bounds
-    ensures broken_value { let entry = entry_at tables.now in
-        let from = first_in counts.choices free in
-        let lack = lacks.now in
-        result.broken ≡ broken entry counts rows.now from lack domains.now }
-    ensures wants_value { let entry = entry_at tables.now in
-        let from = first_in counts.choices free in
-        let lack = lacks.now in
-        result.wants ≡ wants_of entry counts rows.now from lack domains.now }
-    ensures rooms_value { result.rooms ≡ rooms_of counts rows.now domains.now }
+pub fn bounds_of(day: &Day, figures: &Figures, domains: &[u64; 64]) -> Bounds
+    ensures broken_value { let day = day_lent day.now in
+        let from = first_in day.counts.choices figures.now.free in
+        result.broken ≡ broken_by figures.now day.counts day.rows from domains.now }
+    ensures wants_value { let day = day_lent day.now in
+        let from = first_in day.counts.choices figures.now.free in
+        result.wants ≡ wants_by figures.now day.counts day.rows from domains.now }
+    ensures rooms_value { let day = day_lent day.now in
+        result.rooms ≡ rooms_of day.counts day.rows domains.now }
 {
+    let counts = day.counts;
     if 64 < counts.choices {
         return no_bounds();
     }
     if 24 < counts.slots {
         return no_bounds();
     }
-    let from = first_in(counts.choices, free);
-    fitting_bounds(counts, rows, tables, from, lacks, domains)
+    let from = first_in(counts.choices, figures.free);
+    fitting_bounds(day, figures, from, domains)
 }

@@ -7,8 +7,8 @@ ghost use Rattle.list_rule_counts.specs.steps.CountRule.{settled_count};
 ghost use Rattle.list_rule_counts.specs.steps.Figures.{fewest_in};
 
 use list_domains::places::{is_settled, lowest_place};
+use list_rule_tables::figures::Figures;
 use list_tables::entry::least_at;
-use list_tables::shape::TABLES;
 
 // Counts a settled choice in its one place, if that is one of the slots.
 fn count_one(slots: usize, domain: u64, settled: &mut [usize; 24])
@@ -43,19 +43,18 @@ pub(crate) fn settled_counts(slots: usize, choices: usize, domains: &[u64; 64]) 
 // How many choices each slot has at least by its sums: the settled ones, and the fewest that fill its lack.
 pub(crate) fn least_counts(
     slots: usize,
+    figures: &Figures,
     from: usize,
-    lacks: &[usize; 24],
-    tables: &[u16; TABLES],
     settled: &[usize; 24],
 ) -> [usize; 24]
     requires { (slots ≤ 24) × ((slot : ℕ) → slot < slots → get_or settled.now slot 0 ≤ 64) }
-    ensures { let entry = entry_at tables.now in
-        let fewest = fewest_in entry from lacks.now settled.now in
+    ensures { let entry = entry_at figures.now.tables.now in
+        let fewest = fewest_in entry from figures.now.lacks.now settled.now in
         result ≡ written slots 0 fewest (replicate 24 0) }
 {
     let mut least = [0usize; 24];
     for slot in 0..slots {
-        let more = least_at(tables, 0, from, lacks[slot]);
+        let more = least_at(figures.tables, 0, from, figures.lacks[slot]);
         least[slot] = settled[slot] + more;
     }
     least

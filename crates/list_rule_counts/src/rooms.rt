@@ -3,13 +3,17 @@
 ghost use Rattle.std.specs.Prelude.{◌≡◌, true, false, ◌&&◌, cond, suc, ◌+◌, ◌-◌, ◌≤◌, ◌<◌, leb, length};
 ghost use Rattle.list_tables.specs.steps.Tables.{entry_at};
 ghost use Rattle.list_domains.specs.steps.Domains.{kept_places};
+ghost use Rattle.plan_check.specs.Day.{day_lent};
 ghost use Rattle.list_rule_tables.specs.steps.Figures.{first_in};
-ghost use Rattle.list_rule_counts.specs.steps.CountRule.{slot_rule, rooms_below};
+ghost use Rattle.list_rule_counts.specs.steps.CountRule.{slot_rule};
+ghost use Rattle.list_rule_counts.specs.steps.Lent.{rooms_by};
 
 use base_choice_sets::set::member;
 use list_domains::places::kept;
+use list_rule_tables::figures::Figures;
 use list_tables::entry::least_at;
 use list_tables::shape::TABLES;
+use plan_check::day::Day;
 
 // Whether a slot that takes so many other choices has no room for one more.
 fn is_full(room: usize, others: usize) -> bool
@@ -46,33 +50,32 @@ fn left_with(
 // Narrows every choice's domain from the first free one on by one slot's room: a slot that has room
 // for all of them is lost to none.
 fn narrow_slot(
-    choices: usize,
-    maxs: &[u16],
-    tables: &[u16; TABLES],
-    free: u64,
+    day: &Day,
+    figures: &Figures,
     from: usize,
-    lacks: &[usize; 24],
     rooms: &[usize; 24],
     slot: usize,
     domains: &mut [u64; 64],
 )
-    requires { (slot < 24) × ((choices ≤ 64) × ((length maxs.now ≡ choices) × (from ≡ first_in choices free))) }
-    ensures { let entry = entry_at tables.now in
-        let lack = lacks.now in
-        let room = rooms.now in
-        let given = domains.old in
-        domains.new ≡ slot_rule entry choices maxs.now free from lack room slot given }
+    requires { let day = day_lent day.now in
+        (slot < 24) × ((day.counts.choices ≤ 64) × ((length day.maxs ≡ day.counts.choices)
+        × (from ≡ first_in day.counts.choices figures.now.free))) }
+    ensures { let day = day_lent day.now in
+        let given = figures.now in
+        domains.new ≡ slot_rule (entry_at given.tables.now) day.counts.choices day.maxs given.free from
+        given.lacks.now rooms.now slot domains.old }
 {
     let room = rooms[slot];
     if 64 < room {
         return;
     }
-    let lack = lacks[slot];
-    for choice in from..choices {
+    let lack = figures.lacks[slot];
+    let maxs = day.maxs;
+    for choice in from..day.counts.choices {
         let domain = domains[choice];
         domains[choice] = left_with(
-            member(free, choice),
-            tables,
+            member(figures.free, choice),
+            figures.tables,
             from,
             lack,
             maxs[choice],
@@ -85,26 +88,20 @@ fn narrow_slot(
 
 // Narrows the domains by every slot's room, one slot after the other.
 pub(crate) fn narrow_by_rooms(
-    slots: usize,
-    choices: usize,
-    maxs: &[u16],
-    tables: &[u16; TABLES],
-    free: u64,
+    day: &Day,
+    figures: &Figures,
     from: usize,
-    lacks: &[usize; 24],
     rooms: &[usize; 24],
     domains: &mut [u64; 64],
 )
-    requires { (slots ≤ 24) × ((choices ≤ 64) × ((length maxs.now ≡ choices) × (from ≡ first_in choices free))) }
-    ensures { let entry = entry_at tables.now in
-        let lack = lacks.now in
-        let room = rooms.now in
-        let given = domains.old in
-        domains.new ≡ rooms_below entry choices maxs.now free from lack room slots given }
+    requires { let day = day_lent day.now in
+        (day.counts.slots ≤ 24) × ((day.counts.choices ≤ 64) × ((length day.maxs ≡ day.counts.choices)
+        × (from ≡ first_in day.counts.choices figures.now.free))) }
+    ensures { let day = day_lent day.now in
+        let slots = day.counts.slots in
+        domains.new ≡ rooms_by figures.now rooms.now day.counts.choices day.maxs from slots domains.old }
 {
-    for slot in 0..slots {
-        narrow_slot(
-            choices, maxs, tables, free, from, lacks, rooms, slot, domains,
-        );
+    for slot in 0..day.counts.slots {
+        narrow_slot(day, figures, from, rooms, slot, domains);
     }
 }

@@ -7,6 +7,7 @@ ghost use Rattle.list_rule_counts.specs.steps.CountRule.{want_rule};
 ghost use Rattle.list_rule_counts.specs.steps.Figures.{keeps_of};
 
 use base_choice_sets::set::{member, size, with_if};
+use day_rows::check::Counts;
 use list_domains::places::both;
 
 // How many free choices are wanted with one slot more, cut at 65, which is more than any day has.
@@ -64,24 +65,28 @@ fn narrow_free(choices: usize, free: u64, set: u64, domains: &mut [u64; 64])
 // Narrows the free choices' domains by what the slots want: to nothing if they want more free choices than
 // there are, to the slots that want some if they want them all.
 pub(crate) fn narrow_by_wants(
-    slots: usize,
-    choices: usize,
+    counts: Counts,
     free: u64,
     wants: &[usize; 24],
     domains: &mut [u64; 64],
 )
-    requires { (slots ≤ 24) × (choices ≤ 64) }
-    ensures { let rule = want_rule slots wants.now free in
-        domains.new ≡ each_below choices rule domains.old }
+    requires { (counts.slots ≤ 24) × (counts.choices ≤ 64) }
+    ensures { let rule = want_rule counts.slots wants.now free in
+        domains.new ≡ each_below counts.choices rule domains.old }
 {
-    let need = need_of(slots, wants);
+    let need = need_of(counts.slots, wants);
     let spare = size(free);
     if need < spare {
         return;
     }
     if spare < need {
-        narrow_free(choices, free, 0, domains);
+        narrow_free(counts.choices, free, 0, domains);
         return;
     }
-    narrow_free(choices, free, needy_slots(slots, wants), domains);
+    narrow_free(
+        counts.choices,
+        free,
+        needy_slots(counts.slots, wants),
+        domains,
+    );
 }

@@ -11,7 +11,7 @@ use list_domains::places::{is_settled, lowest_place};
 use plan_check::day::Day;
 
 // Every slot's sums: of the minimums that must stand there, and of the maximums that may.
-#[derive(Drop)]
+#[derive(Clone, Copy)]
 pub(crate) struct Sums {
     pub musts: [usize; 24],
     pub mays: [usize; 24],

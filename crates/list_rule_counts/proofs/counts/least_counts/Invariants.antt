@@ -7,4 +7,4 @@ use Rattle.list_rule_counts.proofs.counts.least_counts.Given as goal
 
 abbrev pub invariant-loop-slot : goal.invariant-loop-slot
 invariant-loop-slot l =
-    l.least ≡ written l.slot 0 (fewest_in (entry_at l.tables) l.from l.lacks l.settled) (replicate 24 0)
+    l.least ≡ written l.slot 0 (fewest_in (entry_at l.figures.tables.now) l.from l.figures.lacks.now l.settled) (replicate 24 0)

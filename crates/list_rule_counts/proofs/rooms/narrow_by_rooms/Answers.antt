@@ -13,4 +13,4 @@ loop-slot-preserved c =
 
 pub returns : goal.returns
 returns c =
-    let e : c.loop-slot.slot ≡ c.args.slots = omega (arith, c.loop-slot-test.false, c.loop-slot.auto.slot-end) in rw e at c.loop-slot.invariant
+    let e : c.loop-slot.slot ≡ c.args.day.now.counts.slots = omega (arith, c.loop-slot-test.false, c.loop-slot.auto.slot-end) in rw e at c.loop-slot.invariant

@@ -7,4 +7,4 @@ use Rattle.list_rule_counts.proofs.rooms.narrow_slot.Given as goal
 
 abbrev pub invariant-loop-choice : goal.invariant-loop-choice
 invariant-loop-choice l =
-    l.domains ≡ each_below l.choice (room_rule (entry_at l.tables) l.maxs l.free l.from l.lacks l.rooms l.slot) l.initial.domains
+    l.domains ≡ each_below l.choice (room_rule (entry_at l.figures.tables.now) l.maxs l.figures.free l.from l.figures.lacks.now l.rooms l.slot) l.initial.domains

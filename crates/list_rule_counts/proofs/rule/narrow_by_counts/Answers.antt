@@ -10,14 +10,14 @@ pub returns-then-counts-gt200 : goal.returns-then-counts-gt200
 returns-then-counts-gt200 c =
     rule-many-choosers _ _ _ _ _ _ _ _ c.if-counts-gt64.false c.if-counts-gt200.true
 
-pub returns-then-maxs-counts : goal.returns-then-maxs-counts
-returns-then-maxs-counts c =
-    rule-other-length _ _ _ _ _ _ _ _ c.if-counts-gt64.false c.if-counts-gt200.false c.if-maxs-counts.true
+pub returns-then-day-counts : goal.returns-then-day-counts
+returns-then-day-counts c =
+    rule-other-length _ _ _ _ _ _ _ _ c.if-counts-gt64.false c.if-counts-gt200.false c.if-day-counts.true
 
 pub returns-then-counts-gt24 : goal.returns-then-counts-gt24
 returns-then-counts-gt24 c =
-    rule-many-slots _ _ _ _ _ _ _ _ c.if-counts-gt64.false c.if-counts-gt200.false c.if-maxs-counts.false c.if-counts-gt24.true
+    rule-many-slots _ _ _ _ _ _ _ _ c.if-counts-gt64.false c.if-counts-gt200.false c.if-day-counts.false c.if-counts-gt24.true
 
 pub returns : goal.returns
 returns c =
-    rule_fits _ _ _ _ _ _ _ _ _ _ _ c.if-counts-gt64.false c.if-counts-gt200.false c.if-maxs-counts.false c.if-counts-gt24.false c.first_in-from.ensures.0 c.narrow_by_rooms.ensures c.narrow_by_wants.ensures
+    rule_fits _ _ _ _ _ _ _ _ _ _ _ c.if-counts-gt64.false c.if-counts-gt200.false c.if-day-counts.false c.if-counts-gt24.false c.first_in-from.ensures.0 c.narrow_by_rooms.ensures c.narrow_by_wants.ensures

@@ -5,4 +5,4 @@ use Rattle.list_rule_rows.specs.steps.RowsRule.{rows_rule}
 use Rattle.list_rule_rows.proofs.rows.narrow_by_rows.Given as goal
 
 abbrev pub invariant-loop-number : goal.invariant-loop-number
-invariant-loop-number l = rows_rule l.counts (drop l.number-index l.rows) l.domains ≡ rows_rule l.counts l.rows l.initial.domains
+invariant-loop-number l = rows_rule l.counts (drop l.number-index l.day.rows.now) l.domains ≡ rows_rule l.counts l.day.rows.now l.initial.domains
