@@ -1,25 +1,23 @@
 -- The count of the nodes: from the empty start it is 01's, and what it answers is read back.
 use mathlib.Core.Path.{◌≡◌, refl, sym, ap, ◌∙◌}
 use mathlib.Core.Bool.{Bool, true, false, ◌&&◌, cond, false≢true}
-use mathlib.Core.List.{List, []}
+use mathlib.Core.List.{List}
 use Prim.Native.Nat.{ℕ, ◌+◌, ◌-◌}
 use native.Mathlib.Nat.{sub-zero}
 use native.Mathlib.Omega.{arith}
 use borrow.Author.Tests.{eq-eqb, ne_eqb, eqb-true}
 use lib.Dec.{eqb, leb}
 use lib.ListN.{length, replicate, length-replicate}
+use Rattle.std.specs.Prelude.{Option, None, Some}
 use Rattle.base_lists.proofs.Below.{and_left, and_right, and_both}
 use Rattle.day_rows.specs.Check.{counts_in_range}
-use Rattle.day_rows.specs.declared.check.Counts.{Counts}
 use Rattle.day_rows.specs.declared.check.Takes.TheVariants.{Scheduling}
 use Rattle.day_rows.proofs.CountLaws.{Within, within}
-use Rattle.plan_check.specs.Day.{Day, day_of}
-use Rattle.list_nodes.specs.Placements.{is_node, nodes}
+use Rattle.plan_check.specs.Day.{Day}
+use Rattle.list_nodes.specs.Placements.{nodes}
 use Rattle.list_nodes.specs.steps.Nodes.{countable, nodes_within}
 use Rattle.list_nodes.specs.steps.Walk.{nodes_from}
 use Rattle.list_nodes.specs.steps.Runs.{Walks, Counted, Judged}
-use Rattle.list_nodes.specs.declared.nodes.Counting.{Counting}
-use Rattle.list_nodes.specs.declared.nodes.Counting.TheVariants as counting
 use Rattle.list_nodes.proofs.WholeLaws.{zeros-at, nodes-all}
 
 -- ---- whether the nodes are counted, one test after the other
@@ -38,7 +36,7 @@ module _ (day : Day) where
     unfolding countable
     count-decides m = rw (r, eq-eqb _ _ m)
 
-  pub none-counted : (budget : ℕ) → countable day ≡ false → counting.Over ≡ nodes_within day budget
+  pub none-counted : (budget : ℕ) → countable day ≡ false → None ≡ nodes_within day budget
   unfolding nodes_within
   none-counted budget f = rw f
 
@@ -86,11 +84,11 @@ module _ (day : Day) where
       holds-is : holds ≡ leb (nodes day) budget
       holds-is = k.answer ∙ ap (λ (n : ℕ). leb n budget) whole-nodes
 
-      pub counted-over : holds ≡ false → counting.Over ≡ nodes_within day budget
+      pub counted-over : holds ≡ false → None ≡ nodes_within day budget
       unfolding nodes_within
       counted-over f = rw (c, sym holds-is ∙ f)
 
-      pub counted-within : holds ≡ true → {spent : ℕ} → spent ≡ budget - left → counting.Within spent ≡ nodes_within day budget
+      pub counted-within : holds ≡ true → {spent : ℕ} → spent ≡ budget - left → Some spent ≡ nodes_within day budget
       unfolding nodes_within
       counted-within t {spent} s =
           let b : budget ≡ nodes day + left = k.spent t ∙ ap (λ (n : ℕ). n + left) whole-nodes in
@@ -99,44 +97,38 @@ module _ (day : Day) where
 
 -- ---- what the count answers, read back
 
-abbrev held : Counting → Bool
-held (counting.Within nodes) = true
-held counting.Over = false
+abbrev held : Option ℕ → Bool
+held (Some nodes) = true
+held None = false
 
-abbrev count_in : Counting → ℕ
-count_in (counting.Within nodes) = nodes
-count_in counting.Over = 0
+abbrev count_in : Option ℕ → ℕ
+count_in (Some nodes) = nodes
+count_in None = 0
 
-over-is : (b : Bool) (n : ℕ) → counting.Over ≡ cond b (counting.Within n) counting.Over → b ≡ false
+over-is : (b : Bool) (n : ℕ) → None ≡ cond b (Some n) None → b ≡ false
 over-is true n e = absurd (false≢true (ap held e))
 over-is false n e = refl
 
-within-is : (b : Bool) (n m : ℕ) → counting.Within m ≡ cond b (counting.Within n) counting.Over → (b ≡ true) × (m ≡ n)
+within-is : (b : Bool) (n m : ℕ) → Some m ≡ cond b (Some n) None → (b ≡ true) × (m ≡ n)
 within-is true n m e = (refl, ap count_in e)
 within-is false n m e = absurd (false≢true (sym (ap held e)))
 
 -- what the count answers of a day that isn't refused
-module _ (counts : Counts) (mins maxs optional rows : List ℕ) (room : ℕ) (buffer : List ℕ) (j : Judged (day_of counts mins maxs optional rows) room buffer) where
-  is-counted : countable (day_of counts mins [] optional []) ≡ true
+module _ (day : Day) (room : ℕ) (buffer : List ℕ) (j : Judged day room buffer) where
+  is-counted : countable day ≡ true
   unfolding countable
   is-counted =
-      and_both (counts_in_range counts Scheduling && eqb (length mins) counts.choices) (eqb (length optional) counts.choices)
-      (and_both (counts_in_range counts Scheduling) (eqb (length mins) counts.choices) j.in_range (eq-eqb _ _ j.mins-fit))
+      and_both (counts_in_range day.counts Scheduling && eqb (length day.mins) day.counts.choices) (eqb (length day.optional) day.counts.choices)
+      (and_both (counts_in_range day.counts Scheduling) (eqb (length day.mins) day.counts.choices) j.in_range (eq-eqb _ _ j.mins-fit))
       (eq-eqb _ _ j.optional-fits)
 
-  same_nodes : nodes (day_of counts mins [] optional []) ≡ nodes (day_of counts mins maxs optional rows)
-  unfolding nodes is_node
-  same_nodes = refl
-
-  module _ (budget : ℕ) {counted : Counting} (e : counted ≡ nodes_within (day_of counts mins [] optional []) budget) where
-    counted_is : counted ≡ cond (leb (nodes (day_of counts mins maxs optional rows)) budget) (counting.Within (nodes (day_of counts mins maxs optional rows))) counting.Over
+  module _ (budget : ℕ) {counted : Option ℕ} (e : counted ≡ nodes_within day budget) where
+    counted_is : counted ≡ cond (leb (nodes day) budget) (Some (nodes day)) None
     unfolding nodes_within
-    counted_is = e ∙ rw (is-counted, same_nodes)
+    counted_is = e ∙ rw is-counted
 
-    pub over_budget : counted ≡ counting.Over → leb (nodes (day_of counts mins maxs optional rows)) budget ≡ false
-    over_budget t = over-is (leb (nodes (day_of counts mins maxs optional rows)) budget) (nodes (day_of counts mins maxs optional rows)) (sym t ∙ counted_is)
+    pub over_budget : counted ≡ None → leb (nodes day) budget ≡ false
+    over_budget t = over-is (leb (nodes day) budget) (nodes day) (sym t ∙ counted_is)
 
-    pub within_budget : {visited : ℕ} → counted ≡ counting.Within visited
-        → (leb (nodes (day_of counts mins maxs optional rows)) budget ≡ true) × (visited ≡ nodes (day_of counts mins maxs optional rows))
-    within_budget {visited} t =
-        within-is (leb (nodes (day_of counts mins maxs optional rows)) budget) (nodes (day_of counts mins maxs optional rows)) visited (sym t ∙ counted_is)
+    pub within_budget : {visited : ℕ} → counted ≡ Some visited → (leb (nodes day) budget ≡ true) × (visited ≡ nodes day)
+    within_budget {visited} t = within-is (leb (nodes day) budget) (nodes day) visited (sym t ∙ counted_is)

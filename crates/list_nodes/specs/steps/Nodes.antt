@@ -1,11 +1,9 @@
 -- The nodes of a day against a budget.
-use Rattle.std.specs.Prelude.{Bool, ◌&&◌, cond, ℕ, eqb, leb, length}
+use Rattle.std.specs.Prelude.{Bool, ◌&&◌, cond, ℕ, Option, None, Some, eqb, leb, length}
 use Rattle.day_rows.specs.Check.{counts_in_range}
 use Rattle.day_rows.specs.declared.check.Takes.TheVariants.{Scheduling}
 use Rattle.plan_check.specs.Day.{Day}
 use Rattle.list_nodes.specs.Placements.{nodes}
-use Rattle.list_nodes.specs.declared.nodes.Counting.{Counting}
-use Rattle.list_nodes.specs.declared.nodes.Counting.TheVariants as counting
 
 -- a day whose nodes are counted: its counts in their ranges, with a minimum and a flag for each choice
 unfoldable pub countable : Day → Bool
@@ -15,8 +13,8 @@ countable day =
     && eqb (length day.optional) day.counts.choices
 
 -- how many nodes a day has, if they are within the budget
-unfoldable pub nodes_within : Day → ℕ → Counting
+unfoldable pub nodes_within : Day → ℕ → Option ℕ
 nodes_within day budget =
     cond (countable day)
-    (cond (leb (nodes day) budget) (counting.Within (nodes day)) counting.Over)
-    counting.Over
+    (cond (leb (nodes day) budget) (Some (nodes day)) None)
+    None

@@ -1,6 +1,6 @@
 -- Each refusal of the listing in its turn.
 use mathlib.Core.Path.{sym, ◌∙◌}
-use Rattle.day_rows.proofs.Outcomes.{told-by}
+use Rattle.day_rows.proofs.ToldLaws.{passed_on}
 use Rattle.list_nodes.proofs.JudgeLaws.{judge_count, judge_length, judge_row, judge_flag, judge_good}
 use Rattle.list_nodes.proofs.judge.judge.Goals as goal
 
@@ -12,14 +12,15 @@ pub returns-then-not-lengths_fit : goal.returns-then-not-lengths_fit
 returns-then-not-lengths_fit c =
     judge_length _ _ _ (sym c.counts_in_range.ensures ∙ c.if-not-counts_in_range.false) (sym c.lengths_fit.ensures ∙ c.if-not-lengths_fit.true)
 
-pub returns-in-Refused : goal.returns-in-Refused
-returns-in-Refused c =
-    judge_row _ _ _ (sym c.counts_in_range.ensures ∙ c.if-not-counts_in_range.false) (sym c.lengths_fit.ensures ∙ c.if-not-lengths_fit.false) (told-by c.check_each_row-checked.ensures c.in-Refused.is)
+pub returns-in_err-check_each_row : goal.returns-in_err-check_each_row
+returns-in_err-check_each_row c =
+    passed_on _ _ c.from_residual.ensures.1
+    ∙ judge_row _ _ _ (sym c.counts_in_range.ensures ∙ c.if-not-counts_in_range.false) (sym c.lengths_fit.ensures ∙ c.if-not-lengths_fit.false) c.in_err-check_each_row.ensures
 
 pub returns-then-not-flags_fit : goal.returns-then-not-flags_fit
 returns-then-not-flags_fit c =
-    judge_flag _ _ _ (sym c.counts_in_range.ensures ∙ c.if-not-counts_in_range.false) (sym c.lengths_fit.ensures ∙ c.if-not-lengths_fit.false) (told-by c.check_each_row-checked.ensures c.in_default.is) (sym c.flags_fit.ensures ∙ c.if-not-flags_fit.true)
+    judge_flag _ _ _ (sym c.counts_in_range.ensures ∙ c.if-not-counts_in_range.false) (sym c.lengths_fit.ensures ∙ c.if-not-lengths_fit.false) c.in_ok-check_each_row.ensures (sym c.flags_fit.ensures ∙ c.if-not-flags_fit.true)
 
 pub returns : goal.returns
 returns c =
-    judge_good _ _ _ (sym c.counts_in_range.ensures ∙ c.if-not-counts_in_range.false) (sym c.lengths_fit.ensures ∙ c.if-not-lengths_fit.false) (told-by c.check_each_row-checked.ensures c.in_default.is) (sym c.flags_fit.ensures ∙ c.if-not-flags_fit.false)
+    judge_good _ _ _ (sym c.counts_in_range.ensures ∙ c.if-not-counts_in_range.false) (sym c.lengths_fit.ensures ∙ c.if-not-lengths_fit.false) c.in_ok-check_each_row.ensures (sym c.flags_fit.ensures ∙ c.if-not-flags_fit.false)

@@ -5,36 +5,36 @@ pub count_choice-returns-then-left-eq0 : goal.count_choice-returns-then-left-eq0
 count_choice-returns-then-left-eq0 t c =
     none_left (some-node _ _ _ _ _ _ _) c.if-left-eq0.true
 
-pub count_choice-returns-then-choice-mins : goal.count_choice-returns-then-choice-mins
-count_choice-returns-then-choice-mins t c =
-    counted-full _ _ _ _ _ _ c.if-left-eq0.false c.if-choice-mins.true
+pub count_choice-returns-then-choice-day : goal.count_choice-returns-then-choice-day
+count_choice-returns-then-choice-day t c =
+    counted-full _ _ _ _ _ _ c.if-left-eq0.false c.if-choice-day.true
 
 pub count_choice-returns : goal.count_choice-returns
 count_choice-returns t c =
     let s = c in
-    counted-on _ _ _ _ _ _ c.if-left-eq0.false s.requires.within c.if-choice-mins.false c.count_place.ensures
+    counted-on _ _ _ _ _ _ c.if-left-eq0.false s.requires.within c.if-choice-day.false c.count_place.ensures
 
-pub count_place-returns-then-optional-choice-ne1 : goal.count_place-returns-then-optional-choice-ne1
-count_place-returns-then-optional-choice-ne1 t c =
+pub count_place-returns-then-day-choice-ne1 : goal.count_place-returns-then-day-choice-ne1
+count_place-returns-then-day-choice-ne1 t c =
     let w = c.requires.0 in
-    counted_none _ _ _ _ _ _ _ _ c.if-slot-slots.true w.few-slots c.if-optional-choice-ne1.true
+    counted_none _ _ _ _ _ _ _ _ c.if-slot-day.true w.few-slots c.if-day-choice-ne1.true
 
-pub count_place-returns-then-slot-slots : goal.count_place-returns-then-slot-slots
-count_place-returns-then-slot-slots t c =
+pub count_place-returns-then-slot-day : goal.count_place-returns-then-slot-day
+count_place-returns-then-slot-day t c =
     let w = c.requires.0 in
-    counted_omission _ _ _ _ _ _ _ _ c.if-slot-slots.true w.few-slots c.if-optional-choice-ne1.false c.count_choice.ensures
+    counted_omission _ _ _ _ _ _ _ _ c.if-slot-day.true w.few-slots c.if-day-choice-ne1.false c.count_choice.ensures
 
-pub count_place-returns-then-choosers-after : goal.count_place-returns-then-choosers-after
-count_place-returns-then-choosers-after t c =
+pub count_place-returns-then-day-after : goal.count_place-returns-then-day-after
+count_place-returns-then-day-after t c =
     let s = c in
-    counted-over _ _ _ _ _ _ _ _ s.requires.1 c.if-slot-slots.false c.from.ensures c.if-choosers-after.true c.count_place.ensures
+    counted-over _ _ _ _ _ _ _ _ s.requires.1 c.if-slot-day.false c.from.ensures c.if-day-after.true c.count_place.ensures
 
 pub count_place-returns-then-not-count_choice : goal.count_place-returns-then-not-count_choice
 count_place-returns-then-not-count_choice t c =
     let s = c in
-    counted-ends _ _ _ _ _ _ _ _ s.requires.1 c.if-slot-slots.false c.from.ensures c.if-choosers-after.false c.count_choice-2.ensures (c.if-not-count_choice.true)
+    counted-ends _ _ _ _ _ _ _ _ s.requires.1 c.if-slot-day.false c.from.ensures c.if-day-after.false c.count_choice-2.ensures (c.if-not-count_choice.true)
 
 pub count_place-returns : goal.count_place-returns
 count_place-returns t c =
     let s = c in
-    counted-slot _ _ _ _ _ _ _ _ s.requires.1 c.if-slot-slots.false c.from.ensures c.if-choosers-after.false c.count_choice-2.ensures (c.if-not-count_choice.false) c.count_place-2.ensures
+    counted-slot _ _ _ _ _ _ _ _ s.requires.1 c.if-slot-day.false c.from.ensures c.if-day-after.false c.count_choice-2.ensures (c.if-not-count_choice.false) c.count_place-2.ensures
