@@ -11,8 +11,7 @@ use lib.Dec.{ltb}
 use lib.ListN.{length, take, drop, length-append, length-take, length-drop}
 use lib.Seq.{sets, take-nil}
 use Rattle.base_lists.proofs.Copies.{sets_join}
-use Rattle.day_rows.specs.declared.check.Counts.{Counts}
-use Rattle.plan_check.specs.Day.{Day, day_of}
+use Rattle.plan_check.specs.Day.{Day}
 use Rattle.plan_check.specs.Feasible.{feasible, is_feasible}
 use Rattle.plan_check.proofs.FeasibleLaws.{worker_agrees}
 use Rattle.plan_check.proofs.CheckLaws.{plan-decides}
@@ -64,12 +63,6 @@ module _ (first room : ℕ) {buffer buffer' : List ℕ} {total total' : ℕ} whe
       }
 
 -- ---- a full start and the plan check
-
--- the counts read from the numbers asked are the day's
-pub told-counts : (mins maxs optional rows plan : List ℕ) {counts given : Counts} {passes : Bool} → passes ≡ is_feasible (day_of given mins maxs optional rows) plan → given ≡ counts
-    → passes ≡ is_feasible (day_of counts mins maxs optional rows) plan
-told-counts mins maxs optional rows plan e g =
-    e ∙ ap (λ (k : Counts). is_feasible (day_of k mins maxs optional rows) plan) g
 
 module _ (day : Day) (room : ℕ) (plan buffer : List ℕ) (s : Shaped day room plan buffer) where
   -- the worker is the plan check

@@ -4,7 +4,6 @@ use mathlib.Core.Bool.{Bool, true, false, ◌||◌}
 use Prim.Native.Nat.{ℕ, ◌-◌, ◌≤◌, ◌<◌, min}
 use borrow.Author.Tests.{le-leb, lt-leb, ne_eqb}
 use lib.Dec.{eqb, leb}
-use Rattle.day_rows.specs.Told.{done}
 use Rattle.list_nodes.specs.Page.{ended_told, goes_on_told, turns_told}
 use Rattle.list_nodes.specs.steps.Run.{goes_on}
 use Rattle.list_starts.specs.steps.PageEnd.{told_of}
@@ -29,15 +28,15 @@ module _ (first room met : ℕ) where
 
 -- the three ends of a walk: the list's, turns', the page's
 module _ (first room : ℕ) {going : Bool} {met written : ℕ} (w : written ≡ min room (met - first)) where
-  pub told-ended : going ≡ true → done (ended_told written met) ≡ done (told_of first room going met)
+  pub told-ended : going ≡ true → ended_told written met ≡ told_of first room going met
   unfolding told_of
   told-ended t = rw (t, w)
 
   module _ (f : going ≡ false) {on : Bool} (o : on ≡ goes_on first room met) where
-    pub told-turns : on ≡ true → done (turns_told written met) ≡ done (told_of first room going met)
+    pub told-turns : on ≡ true → turns_told written met ≡ told_of first room going met
     unfolding told_of
     told-turns t = rw (f, sym o ∙ t, w)
 
-    pub told_goes_on : on ≡ false → done (goes_on_told written met) ≡ done (told_of first room going met)
+    pub told_goes_on : on ≡ false → goes_on_told written met ≡ told_of first room going met
     unfolding told_of
     told_goes_on t = rw (f, sym o ∙ t, w)

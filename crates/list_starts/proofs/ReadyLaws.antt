@@ -9,7 +9,6 @@ use lib.Dec.{eqb, ltb}
 use lib.ListN.{length}
 use Rattle.base_lists.proofs.Below.{and_left, and_right}
 use Rattle.day_rows.specs.Check.{counts_in_range}
-use Rattle.day_rows.specs.declared.check.Counts.{Counts}
 use Rattle.day_rows.specs.declared.check.Takes.TheVariants.{Scheduling}
 use Rattle.day_rows.proofs.CountLaws.{Within, within}
 use Rattle.plan_check.specs.Day.{Day}
@@ -18,44 +17,44 @@ use Rattle.list_nodes.specs.steps.Alive.{Event}
 use Rattle.list_nodes.specs.steps.Run.{Standing, standing, run, goes_on}
 use Rattle.list_starts.specs.steps.PageReady.{ready_for, walked_if}
 
--- whether the walk may start, one test after the other, of the counts as they were read
-module _ {given counts : Counts} (e : given ≡ counts) (mins maxs optional first room turns met size : ℕ) where
-  pub out_of_range : counts_in_range given Scheduling ≡ false → false ≡ ready_for counts mins maxs optional first room turns met size
+-- whether the walk may start, one test after the other
+module _ (day : Day) (first room turns met size : ℕ) where
+  pub out_of_range : counts_in_range day.counts Scheduling ≡ false → false ≡ ready_for day first room turns met size
   unfolding ready_for
-  out_of_range h = rw (sym e, h)
+  out_of_range h = rw (h)
 
-  module _ (r : counts_in_range given Scheduling ≡ true) where
-    pub mins_differ : (mins ≡ given.choices → ⊥) → false ≡ ready_for counts mins maxs optional first room turns met size
+  module _ (r : counts_in_range day.counts Scheduling ≡ true) where
+    pub mins_differ : (length day.mins ≡ day.counts.choices → ⊥) → false ≡ ready_for day first room turns met size
     unfolding ready_for
-    mins_differ n = rw (sym e, r, ne_eqb _ _ n)
+    mins_differ n = rw (r, ne_eqb _ _ n)
 
-    module _ (m : mins ≡ given.choices) where
-      pub maxs_differ : (maxs ≡ given.choices → ⊥) → false ≡ ready_for counts mins maxs optional first room turns met size
+    module _ (m : length day.mins ≡ day.counts.choices) where
+      pub maxs_differ : (length day.maxs ≡ day.counts.choices → ⊥) → false ≡ ready_for day first room turns met size
       unfolding ready_for
-      maxs_differ n = rw (sym e, r, eq-eqb _ _ m, ne_eqb _ _ n)
+      maxs_differ n = rw (r, eq-eqb _ _ m, ne_eqb _ _ n)
 
-      module _ (x : maxs ≡ given.choices) where
-        pub optional_differ : (optional ≡ given.choices → ⊥) → false ≡ ready_for counts mins maxs optional first room turns met size
+      module _ (x : length day.maxs ≡ day.counts.choices) where
+        pub optional_differ : (length day.optional ≡ day.counts.choices → ⊥) → false ≡ ready_for day first room turns met size
         unfolding ready_for
-        optional_differ n = rw (sym e, r, eq-eqb _ _ m, eq-eqb _ _ x, ne_eqb _ _ n)
+        optional_differ n = rw (r, eq-eqb _ _ m, eq-eqb _ _ x, ne_eqb _ _ n)
 
-        module _ (o : optional ≡ given.choices) where
-          pub buffer-differs : eqb size (room * given.choices) ≡ false → false ≡ ready_for counts mins maxs optional first room turns met size
+        module _ (o : length day.optional ≡ day.counts.choices) where
+          pub buffer-differs : eqb size (room * day.counts.choices) ≡ false → false ≡ ready_for day first room turns met size
           unfolding ready_for
-          buffer-differs n = rw (sym e, r, eq-eqb _ _ m, eq-eqb _ _ x, eq-eqb _ _ o, n)
+          buffer-differs n = rw (r, eq-eqb _ _ m, eq-eqb _ _ x, eq-eqb _ _ o, n)
 
-          module _ (b : eqb size (room * given.choices) ≡ true) where
-            pub numbers-end : 2 ^ 64 - 1 - met < turns → false ≡ ready_for counts mins maxs optional first room turns met size
+          module _ (b : eqb size (room * day.counts.choices) ≡ true) where
+            pub numbers-end : 2 ^ 64 - 1 - met < turns → false ≡ ready_for day first room turns met size
             unfolding ready_for
-            numbers-end h = rw (sym e, r, eq-eqb _ _ m, eq-eqb _ _ x, eq-eqb _ _ o, b, le-ltb (met + turns) (2 ^ 64) (omega (arith, h)))
+            numbers-end h = rw (r, eq-eqb _ _ m, eq-eqb _ _ x, eq-eqb _ _ o, b, le-ltb (met + turns) (2 ^ 64) (omega (arith, h)))
 
-            pub page-decides : met < 2 ^ 64 → turns ≤ 2 ^ 64 - 1 - met → goes_on first room met ≡ ready_for counts mins maxs optional first room turns met size
+            pub page-decides : met < 2 ^ 64 → turns ≤ 2 ^ 64 - 1 - met → goes_on first room met ≡ ready_for day first room turns met size
             unfolding ready_for
-            page-decides l h = rw (sym e, r, eq-eqb _ _ m, eq-eqb _ _ x, eq-eqb _ _ o, b, lt-ltb (met + turns) (2 ^ 64) (omega (arith, l, h)))
+            page-decides l h = rw (r, eq-eqb _ _ m, eq-eqb _ _ x, eq-eqb _ _ o, b, lt-ltb (met + turns) (2 ^ 64) (omega (arith, l, h)))
 
 -- a walk that may start has a day that isn't refused, numbers for its plans, and a page that isn't over
 module _ (day : Day) (first room turns met : ℕ) (buffer : List ℕ) where
-  pub ready_means : ready_for day.counts (length day.mins) (length day.maxs) (length day.optional) first room turns met (length buffer) ≡ true
+  pub ready_means : ready_for day first room turns met (length buffer) ≡ true
       → Judged day room buffer × (met + turns < 2 ^ 64) × (goes_on first room met ≡ true)
   unfolding ready_for
   ready_means h =
@@ -88,7 +87,7 @@ module _ (day : Day) (first room turns met : ℕ) (buffer : List ℕ) where
 
   -- with such a day, turns and page the walk may start
   pub is-ready : Judged day room buffer → met + turns < 2 ^ 64 → goes_on first room met ≡ true
-      → ready_for day.counts (length day.mins) (length day.maxs) (length day.optional) first room turns met (length buffer) ≡ true
+      → ready_for day first room turns met (length buffer) ≡ true
   unfolding ready_for
   is-ready j n g =
       rw (j.in_range, eq-eqb _ _ j.mins-fit, eq-eqb _ _ j.maxs-fit, eq-eqb _ _ j.optional-fits, eq-eqb _ _ j.buffer-fits, lt-ltb _ _ n, g)

@@ -2,6 +2,7 @@
 // check and the page; whether it goes on after a plan, and what its end tells.
 #![tactic(auto)]
 
+pub mod asked;
 pub mod full;
 pub mod page;
 pub mod page_end;

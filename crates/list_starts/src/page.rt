@@ -3,6 +3,7 @@ ghost use Rattle.std.specs.Prelude.{◌≡◌, ◌+◌, ◌-◌, ◌≤◌, min,
 ghost use Rattle.std.proofs.lemmas.List.Edits.{sets};
 ghost use Rattle.list_starts.specs.steps.Starts.{put_within};
 
+use super::asked::Asked;
 use list_nodes::judge::buffer_fits;
 
 // Copies a plan into the buffer from a place on.
@@ -15,25 +16,25 @@ fn copy_at(plan: &[u8], buffer: &mut [u8], at: usize)
 
 // Puts a plan of the page at its place, and one of another page nowhere; in a buffer that isn't as long as
 // its room says nothing is written.
-pub(crate) fn put_plan(first: u64, room: u64, number: u64, plan: &[u8], buffer: &mut [u8])
-    ensures { buffer.new ≡ put_within first room buffer.old number plan.now }
+pub(crate) fn put_plan(asked: &Asked, number: u64, plan: &[u8], buffer: &mut [u8])
+    ensures { buffer.new ≡ put_within asked.now.first asked.now.room buffer.old number plan.now }
 {
-    if number < first {
+    if number < asked.first {
         return;
     }
-    let place = number - first;
-    if room <= place {
+    let place = number - asked.first;
+    if asked.room <= place {
         return;
     }
-    if !buffer_fits(plan.len(), room, buffer.len()) {
+    if !buffer_fits(plan.len(), asked.room, buffer.len()) {
         return;
     }
     copy_at(plan, buffer, place as usize * plan.len());
 }
 
 // How many plans of the list stand on the page.
-pub fn written_of(first: u64, room: u64, total: u64) -> u64
-    ensures { result ≡ min room (total - first) }
+pub fn written_of(asked: &Asked, total: u64) -> u64
+    ensures { result ≡ min asked.now.room (total - asked.now.first) }
 {
-    room.min(total.saturating_sub(first))
+    asked.room.min(total.saturating_sub(asked.first))
 }

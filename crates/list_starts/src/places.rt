@@ -1,9 +1,11 @@
 // The places of a choice, 'slots before omission', and the next of them that it may take.
 ghost use Rattle.std.specs.Prelude.{◌≡◌, [], ◌∷◌, ◌-◌, ◌≤◌, get_or};
+ghost use Rattle.plan_check.specs.Day.{day_lent};
 ghost use Rattle.list_nodes.specs.steps.Walk.{place_of, place_fits, next_open};
 ghost use Rattle.list_starts.specs.steps.Starts.{open_within};
 
 use base_pools::number::flag_of;
+use plan_check::day::Day;
 
 // The place with so many places left, itself among them: the slots by their numbers, then omission.
 pub fn place_at(slots: usize, left: usize) -> usize
@@ -70,23 +72,16 @@ fn first_open(
 
 // How many places are left from the next one on that the choice may take; 0 if there is none, or if there are
 // more slots than a day may have.
-pub fn next_open(
-    slots: usize,
-    choosers: usize,
-    mins: &&[u16],
-    optional: &&[u8],
-    choice: usize,
-    left: usize,
-    slot_min: &[usize; 24],
-) -> usize
-    ensures { let minimums = mins.now.now in
-        let flags = optional.now.now in
-        result ≡ open_within slots choosers minimums flags slot_min.now choice left }
+pub fn next_open(day: &Day, choice: usize, left: usize, slot_min: &[usize; 24]) -> usize
+    ensures { let day = day_lent day.now in
+        result ≡ open_within day.counts.slots day.counts.choosers day.mins day.optional
+        slot_min.now choice left }
 {
+    let slots = day.counts.slots;
     if 24 < slots {
         return 0;
     }
-    let least = amount_of(*mins, choice);
-    let flag = flag_of(*optional, choice);
-    first_open(slots, choosers, least, flag, left, slot_min)
+    let least = amount_of(day.mins, choice);
+    let flag = flag_of(day.optional, choice);
+    first_open(slots, day.counts.choosers, least, flag, left, slot_min)
 }

@@ -3,49 +3,9 @@ use Rattle.std.specs.Prelude.{Bool, ◌&&◌, cond, ℕ, zero, suc, ◌+◌, ◌
 use mathlib.Core.List.{List, [], ◌∷◌, ◌++◌, flat_map}
 use Rattle.std.proofs.lemmas.List.Edits.{sets}
 use Rattle.base_lists.specs.Keep.{sum_over}
-use Rattle.day_rows.specs.declared.check.Counts.{Counts}
-use Rattle.plan_check.specs.Day.{Day, day_of}
+use Rattle.plan_check.specs.Day.{Day}
 use Rattle.plan_check.specs.Feasible.{omission_allowed, feasible}
 use Rattle.list_nodes.specs.Placements.{slots_from, places}
-
--- the numbers asked, which all the starts share: the day's counts, the first plan number and the room
-unfoldable pub numbers_asked : Counts → ℕ → ℕ → List ℕ
-numbers_asked counts first room =
-    counts.choices ∷ counts.slots ∷ counts.choosers ∷ counts.rows ∷ first ∷ room ∷ []
-
--- the number of choices among the numbers asked
-abbrev pub choices_of : List ℕ → ℕ
-choices_of asked = get_or asked 0 0
-
--- the number of slots among the numbers asked
-abbrev pub slots_of : List ℕ → ℕ
-slots_of asked = get_or asked 1 0
-
--- the headcount among the numbers asked
-abbrev pub choosers_of : List ℕ → ℕ
-choosers_of asked = get_or asked 2 0
-
--- the first plan number among the numbers asked
-abbrev pub first_of : List ℕ → ℕ
-first_of asked = get_or asked 4 0
-
--- the room in plans among the numbers asked
-abbrev pub room_of : List ℕ → ℕ
-room_of asked = get_or asked 5 0
-
--- the day's counts among the numbers asked
-abbrev pub counts_of : List ℕ → Counts
-counts_of asked =
-    record {
-      choices = choices_of asked;
-      slots = slots_of asked;
-      choosers = choosers_of asked;
-      rows = get_or asked 3 0;
-    }
-
--- the day by the numbers asked and its lists
-abbrev pub day_asked : List ℕ → List ℕ → List ℕ → List ℕ → List ℕ → Day
-day_asked asked mins maxs optional rows = day_of (counts_of asked) mins maxs optional rows
 
 -- the places from a slot on
 unfoldable pub places_from : ℕ → ℕ → List ℕ
