@@ -61,9 +61,11 @@ fn narrow_slot(
         (slot < 24) × ((day.counts.choices ≤ 64) × ((length day.maxs ≡ day.counts.choices)
         × (from ≡ first_in day.counts.choices figures.now.free))) }
     ensures { let day = day_lent day.now in
-        let given = figures.now in
-        domains.new ≡ slot_rule (entry_at given.tables.now) day.counts.choices day.maxs given.free from
-        given.lacks.now rooms.now slot domains.old }
+        let entry = entry_at figures.now.tables.now in
+        let free = figures.now.free in
+        let lack = figures.now.lacks.now in
+        let room = rooms.now in
+        domains.new ≡ slot_rule entry day.counts.choices day.maxs free from lack room slot domains.old }
 {
     let room = rooms[slot];
     if 64 < room {
