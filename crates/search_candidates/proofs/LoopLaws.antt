@@ -1,5 +1,4 @@
--- The loops over the numbers and over the limits, in which what is left of a list decides, and the order of
--- the two tests.
+-- The loop over the numbers, in which what is left of the list decides, and the order of the two tests.
 use mathlib.Core.Path.{◌≡◌, refl, ◌∙◌}
 use mathlib.Core.Bool.{Bool, true, false}
 use mathlib.Core.List.{List}
@@ -7,7 +6,7 @@ use Prim.Native.Nat.{ℕ, ◌+◌, ◌≤◌, ◌<◌}
 use lib.ListN.{length, get_or, drop}
 use Rattle.base_lists.proofs.All.{all-passes, all-fails, all-passed}
 use Rattle.day_rows.specs.Row.{row_of}
-use Rattle.search_candidates.specs.Allow.{row_allows, each_allows, limit_holds, limits_hold, rows_allow}
+use Rattle.search_candidates.specs.Allow.{row_allows, each_allows, limits_hold, rows_allow}
 
 -- the loop over the numbers
 module _ (rows numbers decisions : List ℕ) (sizes : ℕ → ℕ) (choice place : ℕ) where
@@ -44,24 +43,3 @@ module _ (rows numbers decisions : List ℕ) (sizes : ℕ → ℕ) (choice place
       → rows_allow rows numbers decisions sizes last choice place ≡ limits_hold rows sizes place
   unfolding rows_allow
   last_tested last l e = rw (e, l)
-
--- the loop over the limits
-module _ (rows : List ℕ) (sizes : ℕ → ℕ) (place : ℕ) where
-  pub LimitsFrom : ℕ → Type 0
-  LimitsFrom i = limits_hold rows sizes place ≡ limits_hold (drop i rows) sizes place
-
-  pub limits-start : LimitsFrom 0
-  unfolding LimitsFrom
-  limits-start = refl
-
-  pub limits-next : (i : ℕ) → i < length rows → LimitsFrom i → limit_holds sizes place (row_of (get_or rows i 0)) ≡ true → LimitsFrom (i + 1)
-  unfolding LimitsFrom limits_hold
-  limits-next i h f t = f ∙ all-passes (λ number. limit_holds sizes place (row_of number)) rows i 0 h t
-
-  pub limits_fail : (i : ℕ) → i < length rows → LimitsFrom i → limit_holds sizes place (row_of (get_or rows i 0)) ≡ false → limits_hold rows sizes place ≡ false
-  unfolding LimitsFrom limits_hold
-  limits_fail i h f t = f ∙ all-fails (λ number. limit_holds sizes place (row_of number)) rows i 0 h t
-
-  pub limits-done : (i : ℕ) → length rows ≤ i → LimitsFrom i → limits_hold rows sizes place ≡ true
-  unfolding LimitsFrom limits_hold
-  limits-done i h f = f ∙ all-passed (λ number. limit_holds sizes place (row_of number)) rows i h

@@ -68,10 +68,5 @@ fn limit_holds(sizes: &[u32], place: u8, number: u64) -> bool
 pub(crate) fn limits_hold(rows: &[u64], sizes: &[u32], place: u8) -> bool
     ensures { result ≡ limits_hold rows.now (λ slot. get_or sizes.now slot 0) place }
 {
-    for number in rows {
-        if !limit_holds(sizes, place, *number) {
-            return false;
-        }
-    }
-    true
+    rows.iter().all(|number| limit_holds(sizes, place, *number))
 }

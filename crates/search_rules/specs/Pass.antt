@@ -1,13 +1,14 @@
 -- 'One pass of the search': what stands at a depth, its candidates, and the walk over them.
 use Rattle.std.specs.Prelude.{Bool, ◌&&◌, cond, List, [], ℕ, suc, eqb, ltb, length, get_or, take, drop}
 use Rattle.base_lists.specs.Keep.{sum_over}
-use Rattle.plan_check.specs.Day.{Day}
+use Rattle.plan_check.specs.Day.{Day, day_lent}
 use Rattle.plan_check.specs.Feasible.{feasible}
 use Rattle.search_rules.specs.Walk.{Sight, goal, over, on, Out, pass}
-use Rattle.search_map.specs.Map.{Map, looked_up}
+use Rattle.search_map.specs.Map.{Map, map_lent, looked_up}
 use Rattle.search_candidates.specs.Bucket.{Asked, asked_of, bucket_of, draws_one}
 use Rattle.search_candidates.specs.declared.asked.Depth.{Depth}
 use Rattle.search_rules.specs.Decided.{decided, loads_at}
+use Rattle.search_rules.specs.declared.pass.Lent as code
 
 -- what a pass is lent: full or as the Rust; the day; the map and the whole list of row numbers; the choices
 -- in the order of the pass; the critical sets of its limit; the draws
@@ -23,6 +24,12 @@ pub record Lent : Type 0 where
 abbrev pub lent_of : Bool → Day → Map → List ℕ → List ℕ → List ℕ → List ℕ → Lent
 lent_of full day map whole order sets draws =
     record { full = full; day = day; map = map; whole = whole; order = order; sets = sets; draws = draws }
+
+-- what a pass's code is lent
+abbrev pub pass_lent : code.Lent → Lent
+pass_lent lent =
+    lent_of lent.full (day_lent lent.day) (map_lent lent.map) lent.whole.now lent.order.now lent.sets.now
+    lent.draws.now
 
 -- ---- a new depth
 

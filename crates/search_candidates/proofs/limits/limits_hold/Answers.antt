@@ -1,19 +1,14 @@
-use mathlib.Core.Path.{sym, ◌∙◌}
-use Rattle.search_candidates.proofs.LoopLaws.{limits-start, limits-next, limits_fail, limits-done}
+use mathlib.Core.Path.{◌∙◌}
+use Rattle.std.proofs.Common.{tests, rules}
+use Rattle.std.proofs.lemmas.Iterator.{YieldsList-from_slice}
+use Rattle.std.proofs.lemmas.Iterator.Search.{all_from_yields_List}
+use lib.ListN.{get_or}
+use Rattle.base_lists.proofs.All.{all_of-list_all}
+use Rattle.day_rows.specs.Row.{row_of}
+use Rattle.search_candidates.specs.Allow.{limit_holds, limits_hold}
 use Rattle.search_candidates.proofs.limits.limits_hold.Goals as goal
 
-pub loop-number-init : goal.loop-number-init
-loop-number-init c =
-    limits-start _ _ _
-
-pub returns-then-not-limit_holds : goal.returns-then-not-limit_holds
-returns-then-not-limit_holds c =
-    sym (limits_fail _ _ _ _ c.loop-number-test.true c.loop-number.invariant (sym c.limit_holds.ensures ∙ c.if-not-limit_holds.true))
-
-pub loop-number-preserved : goal.loop-number-preserved
-loop-number-preserved c =
-    limits-next _ _ _ _ c.loop-number-test.true c.loop-number.invariant (sym c.limit_holds.ensures ∙ c.if-not-limit_holds.false)
-
 pub returns : goal.returns
+unfolding limits_hold
 returns c =
-    sym (limits-done _ _ _ _ c.loop-number-test.false c.loop-number.invariant)
+    all_from_yields_List (λ number. limit_holds (λ slot. get_or c.args.sizes.now slot 0) c.args.place (row_of number)) _ _ c.all.result c.all.ensures.ran (YieldsList-from_slice _ c.iter.ensures.rest) (λ x b q k. search (rules, tests)) ∙ all_of-list_all _ _
