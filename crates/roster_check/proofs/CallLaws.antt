@@ -1,7 +1,7 @@
 -- The roster check as a call: what its judges leave to its passes, and a law for each way through it.
-use mathlib.Core.Path.{◌≡◌, refl, sym, ◌∙◌, ap}
+use mathlib.Core.Path.{◌≡◌, refl, sym, ◌∙◌}
 use mathlib.Core.Bool.{Bool, true, false, ◌&&◌, ◌||◌, false≢true}
-use mathlib.Core.List.{List, []}
+use mathlib.Core.List.{List}
 use Prim.Native.Nat.{ℕ, ◌*◌, ◌≤◌}
 use native.Mathlib.Nat.{mul-le-mul_right}
 use native.Mathlib.Omega.{arith}
@@ -13,8 +13,9 @@ use Rattle.base_lists.specs.Below.{all_below}
 use Rattle.base_lists.proofs.All.{all_of-each, each-all_of}
 use Rattle.base_lists.proofs.Below.{and_left, and_right}
 use Rattle.day_rows.specs.Check.{counts_in_range, most_rows}
-use Rattle.day_rows.specs.Told.{Told, done, refused, unless}
+use Rattle.day_rows.specs.Told.{done, refused, unless}
 use Rattle.day_rows.specs.declared.check.Takes.TheVariants.{Scheduling, Assignment}
+use Rattle.day_rows.proofs.ToldLaws.{unless-done}
 use Rattle.day_rows.proofs.CountLaws.{Within, within}
 use Rattle.plan_check.specs.Check.{cell_fits}
 use Rattle.plan_check.specs.Rows.{keeps_rows}
@@ -25,22 +26,13 @@ use Rattle.roster_rows.specs.Cells.{cells_of}
 use Rattle.roster_rows.specs.Rows.{roster_keeps}
 use Rattle.roster_rows.specs.steps.Shapes.{Seated}
 use Rattle.roster_rows.proofs.KindLaws.{rows_decide}
-use Rattle.roster_check.specs.Sheet.{Sheet, sheet_of, row_counts}
+use Rattle.roster_check.specs.Sheet.{Sheet, row_counts}
 use Rattle.roster_rows.specs.Seats.{slots_apart, names_scheduled, cells_judged}
 use Rattle.roster_check.specs.Roster.{seats_fit}
-use Rattle.roster_check.specs.Passes.{passes, highest}
+use Rattle.roster_check.specs.Passes.{roster, passes, highest}
 use Rattle.roster_check.specs.Check.{scored, roster_counts_in_range, roster_lengths_fit, lists_judged, rows_judged, roster_check_of}
 use Rattle.roster_check.specs.steps.Shapes.{Judged}
 use Rattle.roster_check.specs.declared.roster_check.RosterCounts.{RosterCounts}
-
--- a refusal is not done
-never : {A : Type 0} {value : A} {number : ℕ} {carried : List ℕ} → refused number carried ≡ done value → ⊥
-never e = let z : ◌≡◌ {A = ℕ} 0 1 = cc in omega arith
-
--- what isn't refused has passed the test and the rest
-passed : {A : Type 0} {value : A} (test : Bool) (number : ℕ) (rest : Told A) → unless test number rest ≡ done value → (test ≡ true) × (rest ≡ done value)
-passed true number rest e = (refl, e)
-passed false number rest e = absurd (never e)
 
 -- what counts in range say of each count
 pub record Ranged (counts : RosterCounts) : Type 0 where
@@ -110,10 +102,6 @@ fitting sheet h =
       roster = eqb-true _ _ (and_right (a && b && c && d && e && f && g) i h);
     }
 
--- a day has a last level
-pub some_level : (sheet : Sheet) → roster_counts_in_range sheet.counts ≡ true → roster_lengths_fit sheet ≡ true → 1 ≤ length sheet.levels
-some_level sheet c l = omega (arith, (fitting sheet l).levels, (ranged sheet.counts c).some_level)
-
 -- what is known of a sheet that isn't refused by 1 to 4
 pub record Listed (sheet : Sheet) : Type 0 where
   pub counts : Ranged sheet.counts
@@ -127,10 +115,10 @@ module _ (sheet : Sheet) where
   listed e =
       let rest-4 = unless (all_at_most (last_level sheet.levels) sheet.preferences) 4 (done tt) in
       let rest-3 = unless (levels_rise sheet.levels) 3 rest-4 in
-      let a = passed (roster_counts_in_range sheet.counts) 1 (unless (roster_lengths_fit sheet) 2 rest-3) (sym e) in
-      let b = passed (roster_lengths_fit sheet) 2 rest-3 a.1 in
-      let c = passed (levels_rise sheet.levels) 3 rest-4 b.1 in
-      let d = passed (all_at_most (last_level sheet.levels) sheet.preferences) 4 (done tt) c.1 in
+      let a = unless-done (roster_counts_in_range sheet.counts) 1 (unless (roster_lengths_fit sheet) 2 rest-3) (sym e) in
+      let b = unless-done (roster_lengths_fit sheet) 2 rest-3 a.1 in
+      let c = unless-done (levels_rise sheet.levels) 3 rest-4 b.1 in
+      let d = unless-done (all_at_most (last_level sheet.levels) sheet.preferences) 4 (done tt) c.1 in
       record { counts = ranged sheet.counts a.0; lengths = fitting sheet b.0; rising = c.0; most = d.0 }
 
   pub seated : Listed sheet → Seated sheet.counts.slots sheet.counts.choosers sheet.roster
@@ -149,13 +137,13 @@ pub places-fit : (slots : ℕ) (plan roster : List ℕ) → done tt ≡ cells_ju
     → (all_of (cell_fits slots) plan ≡ true) × (all_of (names_scheduled plan) roster ≡ true)
 unfolding cells_judged
 places-fit slots plan roster e =
-    let a = passed (all_of (cell_fits slots) plan) 9 (unless (all_of (names_scheduled plan) roster) 10 (done tt)) (sym e) in
-    let b = passed (all_of (names_scheduled plan) roster) 10 (done tt) a.1 in
+    let a = unless-done (all_of (cell_fits slots) plan) 9 (unless (all_of (names_scheduled plan) roster) 10 (done tt)) (sym e) in
+    let b = unless-done (all_of (names_scheduled plan) roster) 10 (done tt) a.1 in
     (a.0, b.0)
 
 module _ (sheet : Sheet) where
   pub judged : Listed sheet → done tt ≡ cells_judged sheet.counts.slots sheet.plan sheet.roster
-      → Judged sheet.counts sheet.mins sheet.maxs sheet.plan sheet.roster
+      → Judged sheet
   judged l e =
       record {
         few-choices = l.counts.rows.choices;
@@ -187,38 +175,28 @@ module _ (sheet : Sheet) where
   unfolding passes
   passes-apart f = rw f
 
-  module _ (j : Judged sheet.counts sheet.mins sheet.maxs sheet.plan sheet.roster)
+  module _ (j : Judged sheet)
       (a : all_below sheet.counts.choosers (λ chooser. slots_apart sheet.plan (cells_of sheet.counts.slots sheet.roster chooser)) ≡ true) where
-    seats_of : {b : Bool} → all_below (length sheet.plan) (seats_fit sheet.mins sheet.maxs sheet.plan sheet.roster) ≡ b
-        → all_below sheet.counts.choices (seats_fit sheet.mins sheet.maxs sheet.plan sheet.roster) ≡ b
-    seats_of e = ap (λ (n : ℕ). all_below n (seats_fit sheet.mins sheet.maxs sheet.plan sheet.roster)) (sym j.plan-fits) ∙ e
-
-    pub passes_seats : all_below (length sheet.plan) (seats_fit sheet.mins sheet.maxs sheet.plan sheet.roster) ≡ false → false ≡ passes sheet
+    pub passes_seats : all_below sheet.counts.choices (seats_fit sheet.mins sheet.maxs sheet.plan sheet.roster) ≡ false → false ≡ passes sheet
     unfolding passes
-    passes_seats f = rw (a, seats_of f)
+    passes_seats f = rw (a, f)
 
-    module _ (s : all_below (length sheet.plan) (seats_fit sheet.mins sheet.maxs sheet.plan sheet.roster) ≡ true) where
+    module _ (s : all_below sheet.counts.choices (seats_fit sheet.mins sheet.maxs sheet.plan sheet.roster) ≡ true) where
       rows_of : {b : Bool} → keeps_every sheet.plan sheet.rows ≡ b → keeps_rows sheet.plan sheet.rows ≡ b
       rows_of e =
           every-rows sheet.plan sheet.rows (omega (arith, j.plan-fits, j.few-choices)) (places_wider sheet.counts.slots j.seated.few-slots sheet.plan j.places) ∙ e
 
       pub passes-rows : keeps_every sheet.plan sheet.rows ≡ false → false ≡ passes sheet
       unfolding passes
-      passes-rows f = rw (a, seats_of s, rows_of f)
+      passes-rows f = rw (a, s, rows_of f)
 
       pub passes-assignment : keeps_every sheet.plan sheet.rows ≡ true
-          → roster_keeps sheet.counts.choices sheet.counts.slots sheet.counts.choosers sheet.plan sheet.roster sheet.assignment_rows ≡ passes sheet
+          → roster_keeps (roster sheet) sheet.assignment_rows ≡ passes sheet
       unfolding passes
       passes-assignment t =
-          rw (a, seats_of s, rows_of t)
-          (sym (rows_decide sheet.counts.choices sheet.counts.slots sheet.counts.choosers sheet.plan sheet.roster sheet.assignment_rows
+          rw (a, s, rows_of t)
+          (sym (rows_decide (roster sheet) sheet.assignment_rows
           j.few-choices j.seated.few-slots j.seated.few-choosers j.seated.cells))
-
--- whether a roster passes has nothing to do with levels and preferences
-pub passes_any : (counts : RosterCounts) (mins maxs levels preferences rows assignment_rows plan roster : List ℕ)
-    → passes (sheet_of counts mins maxs [] [] rows assignment_rows plan roster) ≡ passes (sheet_of counts mins maxs levels preferences rows assignment_rows plan roster)
-unfolding passes
-passes_any counts mins maxs levels preferences rows assignment_rows plan roster = refl
 
 -- the call: each of its refusals, and its answer
 module _ (sheet : Sheet) where

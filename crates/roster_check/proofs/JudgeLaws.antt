@@ -2,7 +2,7 @@
 use mathlib.Core.Path.{◌≡◌, sym, ◌∙◌, ap}
 use mathlib.Core.Bool.{Bool, true, false}
 use mathlib.Core.List.{List, [], ◌∷◌}
-use Prim.Native.Nat.{ℕ, ◌+◌, ◌*◌, ◌-◌, ◌≤◌, ◌<◌}
+use Prim.Native.Nat.{ℕ, ◌+◌, ◌*◌, ◌≤◌, ◌<◌}
 use native.Mathlib.Omega.{arith}
 use borrow.Author.Tests.{lt-ltb, le-ltb, le-leb, lt-leb, eq-eqb, ne_eqb}
 use lib.Dec.{eqb, leb}
@@ -97,10 +97,9 @@ module _ (sheet : Sheet) where
       unfolding lists_judged
       lists-levels f = rw (c, l, f)
 
-      module _ (r : levels_rise sheet.levels ≡ true) {last : ℕ} (e : last ≡ length sheet.levels - 1) {b : Bool} (p : b ≡ all_at_most (get_or sheet.levels last 0) sheet.preferences) where
+      module _ (r : levels_rise sheet.levels ≡ true) {last : ℕ} (e : last ≡ last_level sheet.levels) {b : Bool} (p : b ≡ all_at_most last sheet.preferences) where
         last-is : b ≡ all_at_most (last_level sheet.levels) sheet.preferences
-        unfolding last_level
-        last-is = p ∙ ap (λ (n : ℕ). all_at_most (get_or sheet.levels n 0) sheet.preferences) e
+        last-is = p ∙ ap (λ (n : ℕ). all_at_most n sheet.preferences) e
 
         pub lists_preference : b ≡ false → refuse 4 ≡ lists_judged sheet
         unfolding lists_judged

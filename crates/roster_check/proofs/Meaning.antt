@@ -28,8 +28,9 @@ use Rattle.day_rows.specs.Told.{Told, done, refused, and_then}
 use Rattle.roster_check.specs.Sheet.{Sheet, row_counts}
 use Rattle.roster_rows.specs.Seats.{slots_apart, names_scheduled, cells_judged}
 use Rattle.roster_check.specs.Roster.{seats_of, seats_fit}
-use Rattle.roster_check.specs.Passes.{passes, highest}
-use Rattle.roster_check.specs.Check.{Scored, scored, lists_judged, rows_judged, roster_check_of}
+use Rattle.roster_check.specs.Passes.{roster, passes, highest}
+use Rattle.roster_check.specs.Check.{scored, lists_judged, rows_judged, roster_check_of}
+use Rattle.roster_check.specs.declared.roster_check.Scored.{Scored}
 use Rattle.roster_check.proofs.CallLaws.{Listed, listed, seated, places-fit}
 
 -- the slot of the choice that a chooser's cell at index s names
@@ -44,7 +45,7 @@ pub record Passing (sheet : Sheet) : Type 0 where
   pub maximums : (choice : ℕ) → choice < sheet.counts.choices → (slot_of sheet.plan choice ≡ 255 → ⊥) → seats_of sheet.roster choice ≤ get_or sheet.maxs choice 0
   pub rows : (i : ℕ) → i < length sheet.rows → keeps_row sheet.plan (row_of (get_or sheet.rows i 0)) ≡ true
   pub assignment : (i : ℕ) → i < length sheet.assignment_rows
-      → keeps_assignment_row sheet.counts.choices sheet.counts.slots sheet.counts.choosers sheet.plan sheet.roster (row_of (get_or sheet.assignment_rows i 0)) ≡ true
+      → keeps_assignment_row (roster sheet) (row_of (get_or sheet.assignment_rows i 0)) ≡ true
 
 -- the cells of one chooser pass exactly if no two of them name choices in one slot
 module _ (plan cells : List ℕ) where
@@ -89,7 +90,7 @@ module _ (sheet : Sheet) (k : Seated sheet.counts.slots sheet.counts.choosers sh
       let a = all_below sheet.counts.choosers λ chooser. slots_apart sheet.plan (cells chooser) in
       let s = all_below sheet.counts.choices (seats_fit sheet.mins sheet.maxs sheet.plan sheet.roster) in
       let r = keeps_rows sheet.plan sheet.rows in
-      let m = keeps_assignment_rows sheet.counts.choices sheet.counts.slots sheet.counts.choosers sheet.plan sheet.roster sheet.assignment_rows in
+      let m = keeps_assignment_rows (roster sheet) sheet.assignment_rows in
       let asr = and_left (a && s && r) m h in
       let both = and_left (a && s) r asr in
       let fit = all-each sheet.counts.choices (seats_fit sheet.mins sheet.maxs sheet.plan sheet.roster) (and_right a s both) in
@@ -103,7 +104,7 @@ module _ (sheet : Sheet) (k : Seated sheet.counts.slots sheet.counts.choosers sh
         maximums = λ choice hc n. (fits_each sheet.mins sheet.maxs sheet.plan sheet.roster choice (fit choice hc) n).1;
         rows = all_of-each (λ number. keeps_row sheet.plan (row_of number)) sheet.rows 0 (and_right (a && s) r asr);
         assignment =
-            all_of-each (λ number. keeps_assignment_row sheet.counts.choices sheet.counts.slots sheet.counts.choosers sheet.plan sheet.roster (row_of number))
+            all_of-each (λ number. keeps_assignment_row (roster sheet) (row_of number))
             sheet.assignment_rows 0 (and_right (a && s && r) m h);
       }
 
@@ -117,7 +118,7 @@ module _ (sheet : Sheet) (k : Seated sheet.counts.slots sheet.counts.choosers sh
       let s = each_all sheet.counts.choices (seats_fit sheet.mins sheet.maxs sheet.plan sheet.roster) λ choice hc.
       each_fits sheet.mins sheet.maxs sheet.plan sheet.roster choice (p.minimums choice hc) (p.maximums choice hc) in
       let r = each-all_of (λ number. keeps_row sheet.plan (row_of number)) sheet.rows 0 p.rows in
-      let m = each-all_of (λ number. keeps_assignment_row sheet.counts.choices sheet.counts.slots sheet.counts.choosers sheet.plan sheet.roster (row_of number))
+      let m = each-all_of (λ number. keeps_assignment_row (roster sheet) (row_of number))
       sheet.assignment_rows 0 p.assignment in
       and_both _ _ (and_both _ _ (and_both _ _ a s) r) m
 

@@ -40,8 +40,8 @@ module _ (mins maxs plan roster : List ℕ) (choice : ℕ) (h : choice < length 
   unfolding seats_fit seats_of omitted slot_of
   seats_say = p ∙ rw (get_d_any plan choice 0 255 h, tally.counts choice (omega (arith, h, few)))
 
-  pub seat-fails : b ≡ false → false ≡ all_below (length plan) (seats_fit mins maxs plan roster)
-  seat-fails f = sym (one-fails (length plan) (seats_fit mins maxs plan roster) choice h (sym seats_say ∙ f))
+  pub seat-fails : {n : ℕ} → choice < n → b ≡ false → false ≡ all_below n (seats_fit mins maxs plan roster)
+  seat-fails {n} l f = sym (one-fails n (seats_fit mins maxs plan roster) choice l (sym seats_say ∙ f))
 
   pub seat-fits : b ≡ true → all_below choice (seats_fit mins maxs plan roster) ≡ true → all_below (choice + 1) (seats_fit mins maxs plan roster) ≡ true
   seat-fits t a = all_more (seats_fit mins maxs plan roster) choice a (sym seats_say ∙ t)

@@ -1,9 +1,9 @@
 -- The roster check as a call: its refusals, lowest number first, and its answer.
-use Rattle.std.specs.Prelude.{Bool, true, false, ◌&&◌, cond, List, [], ◌∷◌, ℕ, ◌+◌, ◌*◌, eqb, ltb, leb, length}
+use Rattle.std.specs.Prelude.{Bool, ◌&&◌, cond, List, [], ◌∷◌, ℕ, ◌+◌, ◌*◌, eqb, ltb, leb, length}
 use Rattle.base_lists.specs.All.{all_at_most}
 use Rattle.base_lists.specs.First.{first_failing}
 use Rattle.day_rows.specs.Check.{counts_in_range, most_rows, row_keeps}
-use Rattle.day_rows.specs.Told.{Told, done, refused, Verdict, good, refusal_tells, unless, and_then}
+use Rattle.day_rows.specs.Told.{Told, done, refused, Verdict, good, unless, and_then}
 use Rattle.day_rows.specs.declared.check.Counts.{Counts}
 use Rattle.day_rows.specs.declared.check.Takes.{Takes}
 use Rattle.day_rows.specs.declared.check.Takes.TheVariants.{Scheduling, Assignment}
@@ -12,23 +12,11 @@ use Rattle.roster_rows.specs.Seats.{cells_judged}
 use Rattle.roster_check.specs.Sheet.{Sheet, row_counts}
 use Rattle.roster_check.specs.Passes.{passes, highest}
 use Rattle.roster_check.specs.declared.roster_check.RosterCounts.{RosterCounts}
-use Rattle.roster_check.specs.declared.roster_check.RosterChecked.{RosterChecked}
-use Rattle.roster_check.specs.declared.roster_check.RosterChecked.TheVariants.{Passes, Fails, Refused}
-
--- what the check hands back: whether the roster passes, and the highest preference met
-pub record Scored : Type 0 where
-  pub passed : Bool
-  pub highest : ℕ
+use Rattle.roster_check.specs.declared.roster_check.Scored.{Scored}
 
 -- what the check hands back, by its parts
 abbrev pub scored : Bool → ℕ → Scored
 scored passed highest = record { passed = passed; highest = highest }
-
--- what the roster check's answer tells in 01's terms
-abbrev pub roster_tells : RosterChecked → Told Scored
-roster_tells (Passes highest) = done (scored true highest)
-roster_tells (Fails highest) = done (scored false highest)
-roster_tells (Refused why) = refusal_tells why
 
 -- 1: 'Choices C 0..64, slots S 0..24, choosers H 0..200, levels L 1..64', and two lists of at most 1,024 rows
 unfoldable pub roster_counts_in_range : RosterCounts → Bool

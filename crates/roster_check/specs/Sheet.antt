@@ -2,6 +2,7 @@
 use Rattle.std.specs.Prelude.{List, ℕ}
 use Rattle.day_rows.specs.declared.check.Counts.{Counts}
 use Rattle.roster_check.specs.declared.roster_check.RosterCounts.{RosterCounts}
+use Rattle.roster_check.specs.declared.roster_check.Sheet as lent
 
 -- a sheet: the counts; each choice's min and max; levels; preferences chooser by chooser; the search's rows
 -- and the roster's, by their numbers; the plan; the roster's cells chooser by chooser
@@ -31,6 +32,12 @@ sheet_of counts mins maxs levels preferences rows assignment_rows plan roster =
       plan = plan;
       roster = roster;
     }
+
+-- the sheet that a call is lent
+abbrev pub sheet_lent : lent.Sheet → Sheet
+sheet_lent sheet =
+    sheet_of sheet.counts sheet.mins.now sheet.maxs.now sheet.levels.now sheet.preferences.now
+    sheet.rows.now sheet.assignment_rows.now sheet.plan.now sheet.roster.now
 
 -- the counts that the row check takes: those of the search's list
 abbrev pub row_counts : RosterCounts → Counts

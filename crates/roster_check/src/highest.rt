@@ -1,7 +1,11 @@
 // The highest preference that a roster meets.
 ghost use Rattle.std.specs.Prelude.{◌≡◌, ◌+◌, ◌≤◌, length, get_or};
-ghost use Rattle.roster_rows.specs.steps.Shapes.{Seated};
-ghost use Rattle.roster_check.specs.Roster.{highest_below, highest_met};
+ghost use Rattle.roster_check.specs.Sheet.{sheet_lent};
+ghost use Rattle.roster_check.specs.Roster.{highest_below};
+ghost use Rattle.roster_check.specs.Passes.{highest};
+ghost use Rattle.roster_check.specs.steps.Shapes.{Judged};
+
+use super::roster_check::Sheet;
 
 // The preference at a place; 0 past the end.
 fn preference_at(preferences: &[u16], at: usize) -> u16
@@ -25,21 +29,17 @@ fn highest_of(preferences: &[u16], from: usize, cells: &[u8]) -> u16
 }
 
 // The highest of all choosers: 'the highest preference met, 0 for an empty roster'.
-pub(crate) fn highest_met(
-    choices: usize,
-    slots: usize,
-    choosers: usize,
-    preferences: &[u16],
-    roster: &[u8],
-) -> u16
-    requires { (Seated slots choosers roster.now) × (choices ≤ 64) }
-    ensures { result ≡ highest_met choices slots choosers preferences.now roster.now }
+pub(crate) fn highest_met(sheet: &Sheet) -> u16
+    requires { Judged (sheet_lent sheet.now) }
+    ensures { result ≡ highest (sheet_lent sheet.now) }
 {
+    let counts = sheet.counts;
     let mut highest = 0;
-    for chooser in 0..choosers {
-        let at = chooser * slots;
-        let end = at + slots;
-        let met = highest_of(preferences, chooser * choices, &roster[at..end]);
+    for chooser in 0..counts.choosers {
+        let at = chooser * counts.slots;
+        let end = at + counts.slots;
+        let cells = &sheet.roster[at..end];
+        let met = highest_of(sheet.preferences, chooser * counts.choices, cells);
         highest = highest.max(met);
     }
     highest

@@ -1,13 +1,13 @@
 // The tests behind the roster check's refusals: of counts, of preferences and of a list of rows.
 ghost use Rattle.std.specs.Prelude.{◌≡◌, ◌+◌, ◌<◌, ◌^◌, length, get_or};
 ghost use Rattle.base_lists.specs.All.{all_at_most};
+ghost use Rattle.day_rows.specs.Told.{tells};
 ghost use Rattle.roster_check.specs.Sheet.{row_counts};
 ghost use Rattle.roster_check.specs.Roster.{highest_below};
 ghost use Rattle.roster_check.specs.Check.{roster_counts_in_range, list_judged};
-ghost use Rattle.day_rows.specs.Check.{checked_tells};
 
 use super::roster_check::RosterCounts;
-use day_rows::check::{Checked, Counts, Takes, counts_in_range, row_keeps};
+use day_rows::check::{Counts, Takes, counts_in_range, row_keeps};
 use day_rows::refusal::Refusal;
 
 impl RosterCounts {
@@ -59,14 +59,19 @@ pub(crate) fn preferences_keep(last: u16, preferences: &[u16]) -> bool
 }
 
 // The first row of a list that breaks the table, counted from the rows before the list on.
-pub(crate) fn judge_list(counts: Counts, takes: Takes, before: usize, rows: &[u64]) -> Checked
+pub(crate) fn judge_list(
+    counts: Counts,
+    takes: Takes,
+    before: usize,
+    rows: &[u64],
+) -> Result<(), Refusal>
     requires { before + length rows.now < 2 ^ 63 }
-    ensures { checked_tells result ≡ list_judged counts takes before rows.now }
+    ensures { tells result ≡ list_judged counts takes before rows.now }
 {
     for (i, row) in rows.iter().enumerate() {
         if !row_keeps(counts, takes, *row) {
-            return Checked::Refused(Refusal::Row(before + i));
+            return Err(Refusal::Row(before + i));
         }
     }
-    Checked::Good
+    Ok(())
 }

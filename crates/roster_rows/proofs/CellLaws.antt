@@ -1,5 +1,5 @@
 -- The cells of a chooser, and the loops over them.
-use mathlib.Core.Path.{◌≡◌, ◌∙◌, ap}
+use mathlib.Core.Path.{◌≡◌, ap}
 use mathlib.Core.Bool.{Bool, true, false}
 use mathlib.Core.List.{List, [], ◌∷◌}
 use Prim.Native.Nat.{ℕ, suc, ◌+◌, ◌*◌, ◌-◌, ◌≤◌, ◌<◌}
@@ -8,7 +8,7 @@ use native.Mathlib.Numerals.{add-one}
 use native.Mathlib.Omega.{arith}
 use lib.Dec.{eqb}
 use lib.ListN.{length, get_or, take, drop, length-take, length-drop, drop_of_length-le}
-use lib.Seq.{take-nil, drop-length, drop-cons, length-take-le}
+use lib.Seq.{take-nil, drop-cons, length-take-le}
 use Rattle.base_lists.specs.Below.{one}
 use Rattle.base_lists.specs.Group.{times_in}
 use Rattle.base_lists.specs.Pool.{window}
@@ -48,10 +48,6 @@ module _ (slots : ℕ) (roster : List ℕ) (chooser : ℕ) where
     cells-small h =
         let m : choosers * slots ≤ 200 * slots = mul-le-mul_right slots k.few-choosers in
         omega (arith, cells-end h, k.cells, k.few-slots, m)
-
-    -- the parts of the roster that the code hands out
-    pub past-part : choosers ≤ chooser → take (length roster - length roster) (drop (length roster) roster) ≡ cells_of slots roster chooser
-    past-part h = ap (take (length roster - length roster)) (drop-length roster) ∙ take-nil (length roster - length roster) ∙ cells-past h
 
     pub cells-many : chooser < choosers → length (cells_of slots roster chooser) ≡ slots
     unfolding cells_of window

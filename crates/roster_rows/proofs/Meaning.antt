@@ -17,14 +17,15 @@ use Rattle.day_rows.specs.declared.row.Row.{Row}
 use Rattle.plan_check.specs.Plan.{slot_of, omitted}
 use Rattle.plan_check.proofs.PlanLaws.{is-omitted, not-omitted}
 use Rattle.roster_rows.specs.Cells.{cells_of}
+use Rattle.roster_rows.specs.Roster.{Roster}
 use Rattle.roster_rows.specs.Rows.{equal_lists, choosers_in, choices_of, is_there, keeps_assignment_row, roster_keeps}
 use Rattle.roster_rows.proofs.EqualLaws.{equal_means, equal_by, sorted_times}
 use Rattle.roster_rows.proofs.KindLaws.{keeps_10, keeps_11, keeps_12, keeps_13}
 
 -- a cell of the chooser names the choice
-unfoldable pub There : ℕ → List ℕ → ℕ → ℕ → Type 0
-There slots roster chooser choice =
-    (s : ℕ) × (s < length (cells_of slots roster chooser)) × (choice ≡ get_or (cells_of slots roster chooser) s 0)
+unfoldable pub There : Roster → ℕ → ℕ → Type 0
+There roster chooser choice =
+    (s : ℕ) × (s < length (cells_of roster.slots roster.cells chooser)) × (choice ≡ get_or (cells_of roster.slots roster.cells chooser) s 0)
 
 any_means : (choice : ℕ) (l : List ℕ) → any_of (eqb choice) l ≡ true → (s : ℕ) × (s < length l) × (choice ≡ get_or l s 0)
 unfolding any_of
@@ -46,14 +47,14 @@ any_by choice (x ∷ l) (suc s) h e = go (eqb choice x) (any_by choice l s (le_o
     go true t = refl
     go false t = t
 
-module _ (slots : ℕ) (roster : List ℕ) (chooser choice : ℕ) where
-  pub there_means : is_there slots roster chooser choice ≡ true → There slots roster chooser choice
+module _ (roster : Roster) (chooser choice : ℕ) where
+  pub there_means : is_there roster chooser choice ≡ true → There roster chooser choice
   unfolding is_there There
-  there_means h = any_means choice (cells_of slots roster chooser) h
+  there_means h = any_means choice (cells_of roster.slots roster.cells chooser) h
 
-  pub there-by : There slots roster chooser choice → is_there slots roster chooser choice ≡ true
+  pub there-by : There roster chooser choice → is_there roster chooser choice ≡ true
   unfolding is_there There
-  there-by t = any_by choice (cells_of slots roster chooser) t.0 t.1 t.2
+  there-by t = any_by choice (cells_of roster.slots roster.cells chooser) t.0 t.1 t.2
 
 -- a test that an omission spares: it must hold where the choice isn't omitted
 module _ (plan : List ℕ) (choice : ℕ) (b : Bool) where
@@ -72,59 +73,59 @@ or_assoc true b c = refl
 or_assoc false b c = refl
 
 -- what each kind of row asks of a roster, in plain words
-module _ (choices slots choosers : ℕ) (plan roster : List ℕ) (row : Row) where
+module _ (roster : Roster) (row : Row) where
   -- '10, if both are scheduled: equal lists of choosers, repeats counted'
   pub kind_10 : row.kind ≡ 10
-      → (keeps_assignment_row choices slots choosers plan roster row ≡ true)
-      ↔ ((slot_of plan row.left ≡ 255 → ⊥) → (slot_of plan row.right ≡ 255 → ⊥) → choosers_in slots choosers roster row.left ≡ choosers_in slots choosers roster row.right)
+      → (keeps_assignment_row roster row ≡ true)
+      ↔ ((slot_of roster.plan row.left ≡ 255 → ⊥) → (slot_of roster.plan row.right ≡ 255 → ⊥) → choosers_in roster row.left ≡ choosers_in roster row.right)
   kind_10 k =
-      let l = choosers_in slots choosers roster row.left in
-      let r = choosers_in slots choosers roster row.right in
-      let e = keeps_10 choices slots choosers plan roster row k ∙ or_assoc (omitted plan row.left) (omitted plan row.right) (equal_lists l r) in (
-        λ h a b. equal_means l r (unless-out plan row.right (equal_lists l r) (unless-out plan row.left (omitted plan row.right || equal_lists l r) (sym e ∙ h) a) b),
-        λ f. e ∙ out_or plan row.left (omitted plan row.right || equal_lists l r) λ a. out_or plan row.right (equal_lists l r) λ b. equal_by l r (f a b),
+      let l = choosers_in roster row.left in
+      let r = choosers_in roster row.right in
+      let e = keeps_10 roster row k ∙ or_assoc (omitted roster.plan row.left) (omitted roster.plan row.right) (equal_lists l r) in (
+        λ h a b. equal_means l r (unless-out roster.plan row.right (equal_lists l r) (unless-out roster.plan row.left (omitted roster.plan row.right || equal_lists l r) (sym e ∙ h) a) b),
+        λ f. e ∙ out_or roster.plan row.left (omitted roster.plan row.right || equal_lists l r) λ a. out_or roster.plan row.right (equal_lists l r) λ b. equal_by l r (f a b),
       )
 
   -- '11: omitted, or chooser there'
   pub kind_11 : row.kind ≡ 11
-      → (keeps_assignment_row choices slots choosers plan roster row ≡ true) ↔ ((slot_of plan row.right ≡ 255 → ⊥) → There slots roster row.left row.right)
+      → (keeps_assignment_row roster row ≡ true) ↔ ((slot_of roster.plan row.right ≡ 255 → ⊥) → There roster row.left row.right)
   kind_11 k =
-      let e = keeps_11 choices slots choosers plan roster row k in
-      let b = is_there slots roster row.left row.right in (
-        λ h n. there_means slots roster row.left row.right (unless-out plan row.right b (sym e ∙ h) n),
-        λ f. e ∙ out_or plan row.right b λ n. there-by slots roster row.left row.right (f n),
+      let e = keeps_11 roster row k in
+      let b = is_there roster row.left row.right in (
+        λ h n. there_means roster row.left row.right (unless-out roster.plan row.right b (sym e ∙ h) n),
+        λ f. e ∙ out_or roster.plan row.right b λ n. there-by roster row.left row.right (f n),
       )
 
   -- '12: chooser not there'
-  pub kind_12 : row.kind ≡ 12 → (keeps_assignment_row choices slots choosers plan roster row ≡ true) ↔ (There slots roster row.left row.right → ⊥)
+  pub kind_12 : row.kind ≡ 12 → (keeps_assignment_row roster row ≡ true) ↔ (There roster row.left row.right → ⊥)
   kind_12 k =
-      let e = keeps_12 choices slots choosers plan roster row k in (
-        λ h t. false≢true (sym (not-true _ (sym e ∙ h)) ∙ there-by slots roster row.left row.right t),
-        λ n. e ∙ ap not (go (is_there slots roster row.left row.right) refl n),
+      let e = keeps_12 roster row k in (
+        λ h t. false≢true (sym (not-true _ (sym e ∙ h)) ∙ there-by roster row.left row.right t),
+        λ n. e ∙ ap not (go (is_there roster row.left row.right) refl n),
       )
     where
-      go : (b : Bool) → is_there slots roster row.left row.right ≡ b → (There slots roster row.left row.right → ⊥) → is_there slots roster row.left row.right ≡ false
-      go true t n = absurd (n (there_means slots roster row.left row.right t))
+      go : (b : Bool) → is_there roster row.left row.right ≡ b → (There roster row.left row.right → ⊥) → is_there roster row.left row.right ≡ false
+      go true t n = absurd (n (there_means roster row.left row.right t))
       go false t n = t
 
   -- '13: equal sorted lists of choices'
   pub kind_13 : row.kind ≡ 13
-      → (keeps_assignment_row choices slots choosers plan roster row ≡ true) ↔ (choices_of choices slots roster row.left ≡ choices_of choices slots roster row.right)
+      → (keeps_assignment_row roster row ≡ true) ↔ (choices_of roster row.left ≡ choices_of roster row.right)
   kind_13 k =
-      let e = keeps_13 choices slots choosers plan roster row k in
+      let e = keeps_13 roster row k in
       (λ h. equal_means _ _ (sym e ∙ h), λ q. e ∙ equal_by _ _ q)
 
 -- the lists of choosers and of choices: each stands in its list as often as the cells say
-module _ (choices slots choosers : ℕ) (roster : List ℕ) where
-  pub choosers-counted : (choice chooser : ℕ) → chooser < choosers → times_in chooser (choosers_in slots choosers roster choice) ≡ times_in choice (cells_of slots roster chooser)
+module _ (roster : Roster) where
+  pub choosers-counted : (choice chooser : ℕ) → chooser < roster.choosers → times_in chooser (choosers_in roster choice) ≡ times_in choice (cells_of roster.slots roster.cells chooser)
   unfolding choosers_in
-  choosers-counted choice chooser h = sorted_times (λ chooser. times_in choice (cells_of slots roster chooser)) choosers chooser h
+  choosers-counted choice chooser h = sorted_times (λ chooser. times_in choice (cells_of roster.slots roster.cells chooser)) roster.choosers chooser h
 
-  pub choices-counted : (chooser choice : ℕ) → choice < choices → times_in choice (choices_of choices slots roster chooser) ≡ times_in choice (cells_of slots roster chooser)
+  pub choices-counted : (chooser choice : ℕ) → choice < roster.choices → times_in choice (choices_of roster chooser) ≡ times_in choice (cells_of roster.slots roster.cells chooser)
   unfolding choices_of
-  choices-counted chooser choice h = sorted_times (λ choice. times_in choice (cells_of slots roster chooser)) choices choice h
+  choices-counted chooser choice h = sorted_times (λ choice. times_in choice (cells_of roster.slots roster.cells chooser)) roster.choices choice h
 
 -- no two outcomes fit what keeps_assignment_rows promises
-pub one_answer : (choices slots choosers : ℕ) (plan roster rows : List ℕ) {a b : Bool} → a ≡ roster_keeps choices slots choosers plan roster rows
-    → b ≡ roster_keeps choices slots choosers plan roster rows → a ≡ b
-one_answer choices slots choosers plan roster rows = no_two
+pub one_answer : (roster : Roster) (rows : List ℕ) {a b : Bool} → a ≡ roster_keeps roster rows
+    → b ≡ roster_keeps roster rows → a ≡ b
+one_answer roster rows = no_two

@@ -5,10 +5,10 @@ use mathlib.Core.List.{List}
 use Prim.Native.Nat.{ℕ}
 use lib.Dec.{eqb, leb}
 use Rattle.base_lists.proofs.Outcome.{no_two}
-use Rattle.day_rows.specs.Check.{checked_tells}
-use Rattle.day_rows.specs.declared.check.Checked.{Checked}
-use Rattle.day_rows.proofs.ToldLaws.{one_answer}
-use Rattle.day_rows.proofs.Outcomes.{checked_of, checked_back}
+use Rattle.std.specs.Prelude.{Result}
+use Rattle.day_rows.specs.Told.{tells}
+use Rattle.day_rows.specs.declared.refusal.Refusal.{Refusal}
+use Rattle.day_rows.proofs.ToldLaws.{one_told}
 use Rattle.roster_rows.specs.Seats.{slots_apart, cells_judged}
 
 -- slots_apart
@@ -21,6 +21,6 @@ pub one-fitting : (place least most seats : ℕ) {a b : Bool} → a ≡ (eqb pla
 one-fitting place least most seats = no_two
 
 -- judge_cells
-pub one_judging : (slots : ℕ) (plan roster : List ℕ) {a b : Checked} → checked_tells a ≡ cells_judged slots plan roster
-    → checked_tells b ≡ cells_judged slots plan roster → a ≡ b
-one_judging slots plan roster = one_answer checked_tells checked_of checked_back
+pub one_judging : (slots : ℕ) (plan roster : List ℕ) {a b : Result (Unit {0}) Refusal} → tells a ≡ cells_judged slots plan roster
+    → tells b ≡ cells_judged slots plan roster → a ≡ b
+one_judging slots plan roster = one_told

@@ -1,15 +1,14 @@
 -- The library's words for a list that is asked through, against the rules' own.
 use mathlib.Core.Path.{◌≡◌, refl, sym, ◌∙◌, ap₂}
-use mathlib.Core.Bool.{Bool, true, false, ◌&&◌, ◌||◌, cond}
+use mathlib.Core.Bool.{Bool, true, false, ◌||◌, cond}
 use mathlib.Core.List.{List, [], ◌∷◌}
 use Prim.Native.Nat.{ℕ, ◌+◌}
 use native.Mathlib.Decide.{ℕ_discrete}
-use Rattle.std.specs.List.{list_any, list_all, count_by}
+use Rattle.std.specs.List.{list_any, count_by}
 use native.Mathlib.Omega.{arith}
 use borrow.Author.Tests.{eq-eqb, ne_eqb}
 use lib.Dec.{eqb}
 use Rattle.std.proofs.lemmas.List.Recursion.{is_count_by}
-use Rattle.base_lists.specs.All.{all_of}
 use Rattle.base_lists.specs.Below.{one}
 use Rattle.base_lists.specs.Group.{times_in}
 use Rattle.base_lists.specs.Keep.{any_of}
@@ -19,11 +18,6 @@ module _ (p q : ℕ → Bool) (same : (x : ℕ) → p x ≡ q x) where
   unfolding any_of
   some-passes [] = refl
   some-passes (x ∷ l) = ap₂ (λ (a b : Bool). a || b) (same x) (some-passes l)
-
-  pub every-passes : (l : List ℕ) → list_all p l ≡ all_of q l
-  unfolding all_of
-  every-passes [] = refl
-  every-passes (x ∷ l) = ap₂ (λ (a b : Bool). a && b) (same x) (every-passes l)
 
 -- two numbers are equal either way round
 pub either-way : (m n : ℕ) → eqb m n ≡ eqb n m

@@ -1,4 +1,5 @@
 pub mod Cells
+pub mod Roster
 pub mod Rows
 pub mod Seats
 pub mod steps

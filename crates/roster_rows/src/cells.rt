@@ -3,19 +3,23 @@ ghost use Rattle.std.specs.Prelude.{◌≡◌, ◌≤◌, length, eqb};
 ghost use Rattle.base_lists.specs.Group.{times_in};
 ghost use Rattle.base_lists.specs.Keep.{any_of};
 ghost use Rattle.roster_rows.specs.Cells.{cells_of};
-ghost use Rattle.roster_rows.specs.steps.Shapes.{Seated, Tally};
+ghost use Rattle.roster_rows.specs.Roster.{roster_lent};
+ghost use Rattle.roster_rows.specs.steps.Shapes.{Shaped, Tally};
+
+use super::roster::Roster;
 
 // The cells of a chooser; a chooser past the last has none.
-pub(crate) fn cells_of(slots: usize, choosers: usize, roster: &[u8], chooser: usize) -> &[u8]
-    requires { Seated slots choosers roster.now }
-    ensures { result.now ≡ cells_of slots roster.now chooser }
+pub(crate) fn cells_of<'a>(roster: &Roster<'a>, chooser: usize) -> &'a [u8]
+    requires { Shaped (roster_lent roster.now) }
+    ensures { let roster = roster_lent roster.now in
+        result.now ≡ cells_of roster.slots roster.cells chooser }
 {
-    if choosers <= chooser {
-        return &roster[roster.len()..];
+    if roster.choosers <= chooser {
+        return &[];
     }
-    let from = chooser * slots;
-    let end = from + slots;
-    &roster[from..end]
+    let from = chooser * roster.slots;
+    let end = from + roster.slots;
+    &roster.cells[from..end]
 }
 
 // How often the cells name a choice.

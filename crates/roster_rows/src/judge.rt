@@ -1,10 +1,9 @@
 // The refusals of cells: what those of a plan and of a roster must name.
 ghost use Rattle.std.specs.Prelude.{◌≡◌};
 ghost use Rattle.base_lists.specs.All.{all_of};
-ghost use Rattle.day_rows.specs.Check.{checked_tells};
+ghost use Rattle.day_rows.specs.Told.{tells};
 ghost use Rattle.roster_rows.specs.Seats.{names_scheduled, cells_judged};
 
-use day_rows::check::Checked;
 use day_rows::refusal::Refusal;
 use plan_check::plan::{OMITTED, slot_of};
 use plan_check::plan_check::cells_fit;
@@ -24,14 +23,14 @@ fn cells_named(plan: &[u8], roster: &[u8]) -> bool
 }
 
 // The refusals of cells: 9 for a plan's, then 10 for a roster's.
-pub fn judge_cells(slots: usize, plan: &[u8], roster: &[u8]) -> Checked
-    ensures { checked_tells result ≡ cells_judged slots plan.now roster.now }
+pub fn judge_cells(slots: usize, plan: &[u8], roster: &[u8]) -> Result<(), Refusal>
+    ensures { tells result ≡ cells_judged slots plan.now roster.now }
 {
     if !cells_fit(slots, plan) {
-        return Checked::Refused(Refusal::PlanCell);
+        return Err(Refusal::PlanCell);
     }
     if !cells_named(plan, roster) {
-        return Checked::Refused(Refusal::RosterCell);
+        return Err(Refusal::RosterCell);
     }
-    Checked::Good
+    Ok(())
 }

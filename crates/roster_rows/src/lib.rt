@@ -5,4 +5,5 @@
 pub mod assignment;
 mod cells;
 pub mod judge;
+pub mod roster;
 pub mod seats;

@@ -11,8 +11,8 @@ use Rattle.base_lists.specs.Pool.{pad}
 use Rattle.base_lists.proofs.Flat.{list-more, length-list, get_d_list, list_ext, list_back}
 use Rattle.base_lists.proofs.Group.{map-append}
 use Rattle.sets_analysis.specs.Kept.{CriticalSet, critical_set, no_set}
-use Rattle.sets_analysis.specs.Calls.{pools, sets_in, filled}
-use Rattle.sets_analysis.specs.steps.Pools.{cleared_past}
+use Rattle.sets_analysis.specs.Calls.{pools, sets_in, sets_of, filled}
+use Rattle.sets_analysis.specs.steps.Pools.{Lent, Front, cleared_past}
 
 module _ (count : ℕ) (masks levels : List ℕ) where
   pub sets-length : length (sets_in count masks levels) ≡ count
@@ -40,6 +40,24 @@ unfolding sets_in
 sets_ext count masks levels masks' levels' h k =
     list_ext count (λ i. critical_set (get_or levels i 0) (get_or masks i 0)) (λ i. critical_set (get_or levels' i 0) (get_or masks' i 0)) λ i l.
     ap₂ (λ (x y : ℕ). critical_set x y) (k i l) (h i l)
+
+-- the first sets of two pools are all the sets of their first entries
+pub sets-front : (count : ℕ) (masks levels : List ℕ) → count ≤ length masks → sets_of (take count masks) (take count levels) ≡ sets_in count masks levels
+sets-front count masks levels h =
+    ap (λ (n : ℕ). sets_in n (take count masks) (take count levels)) (length-take-le count masks h)
+    ∙ sets_ext count (take count masks) (take count levels) masks levels (λ k l. get_or-take count masks k 0 l) (λ k l. get_or-take count levels k 0 l)
+
+-- pools that are lent have a front of so many sets
+pub front-of : {count : ℕ} {masks levels : List ℕ} → Lent count masks levels → Front (take count masks) (take count levels)
+front-of {count} {masks} {levels} l =
+    let m : length (take count masks) ≡ count = length-take-le count masks (omega (arith, l.few, l.masks-full)) in
+    let n : length (take count levels) ≡ count = length-take-le count levels (omega (arith, l.few, l.levels-full)) in
+    record { paired = n ∙ sym m; few = omega (arith, m, l.few) }
+
+-- what is told of such a front is told of the pools' first sets
+pub front-told : {A : Type 0} (f : List CriticalSet → A) {count : ℕ} {masks levels : List ℕ} {a : A} → Lent count masks levels → a ≡ f (sets_of (take count masks) (take count levels))
+    → a ≡ f (sets_in count masks levels)
+front-told f {count} {masks} {levels} l e = e ∙ ap f (sets-front count masks levels (omega (arith, l.few, l.masks-full)))
 
 -- a set written after the others is the next set of the pools
 pub sets-put : (count : ℕ) (masks levels : List ℕ) (level members : ℕ) → count < length masks → count < length levels

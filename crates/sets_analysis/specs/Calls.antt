@@ -33,6 +33,10 @@ filled sets = pools (pad 1024 (map (λ set. set.members) sets)) (pad 1024 (map (
 unfoldable pub sets_in : ℕ → List ℕ → List ℕ → List CriticalSet
 sets_in count masks levels = list_below count λ i. critical_set (get_or levels i 0) (get_or masks i 0)
 
+-- the sets of two lists that go together, as the first entries of two pools do
+abbrev pub sets_of : List ℕ → List ℕ → List CriticalSet
+sets_of masks levels = sets_in (length masks) masks levels
+
 -- what the analysis hands back: how many sets there are, and the bound
 abbrev pub figures : ℕ → ℕ → Figures
 figures count bound = record { count = count; bound = bound }

@@ -97,7 +97,12 @@ fn analyze_day(
         return Err(Refusal::Sets);
     };
     let count = simplified_if(simplifies, masks, set_levels, kept);
-    let bound = bound_of(day.counts.slots, day.levels, masks, set_levels, count);
+    let bound = bound_of(
+        day.counts.slots,
+        day.levels,
+        &masks[..count],
+        &set_levels[..count],
+    );
     clear_past(masks, set_levels, count);
     Ok(Figures { count, bound })
 }

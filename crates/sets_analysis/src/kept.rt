@@ -4,8 +4,8 @@ ghost use Rattle.base_lists.specs.Flat.{list_below};
 ghost use Rattle.base_lists.specs.Keep.{any_of};
 ghost use Rattle.sets_analysis.specs.SetsDay.{sets_day_lent};
 ghost use Rattle.sets_analysis.specs.Kept.{critical_set, covered_by, candidate_of, kept_from, kept_sets};
-ghost use Rattle.sets_analysis.specs.Calls.{sets_in};
-ghost use Rattle.sets_analysis.specs.steps.Pools.{Lent, Fits, KeptIn, kept_next};
+ghost use Rattle.sets_analysis.specs.Calls.{sets_in, sets_of};
+ghost use Rattle.sets_analysis.specs.steps.Pools.{Lent, Front, Fits, KeptIn, kept_next};
 
 use super::candidate::{Candidate, candidate_of};
 use super::day::{SetsCounts, SetsDay};
@@ -24,12 +24,12 @@ pub(crate) fn is_covered_by(level: u16, members: u64, other_level: u16, other: u
 }
 
 // Whether one of the kept sets covers a set.
-fn is_covered(level: u16, members: u64, masks: &[u64], levels: &[u16], count: usize) -> bool
-    requires { Lent count masks.now levels.now }
-    ensures { let kept = sets_in count masks.now levels.now in
+fn is_covered(level: u16, members: u64, masks: &[u64], levels: &[u16]) -> bool
+    requires { Front masks.now levels.now }
+    ensures { let kept = sets_of masks.now levels.now in
         result ≡ any_of (λ other. covered_by other (critical_set level members)) kept }
 {
-    for i in 0..count {
+    for i in 0..masks.len() {
         if is_covered_by(level, members, levels[i], masks[i]) {
             return true;
         }
@@ -57,7 +57,7 @@ fn keep(
         return Some(count);
     }
     let members = found.members;
-    if is_covered(level, members, masks, levels, count) {
+    if is_covered(level, members, &masks[..count], &levels[..count]) {
         return Some(count);
     }
     if count == MOST_SETS {

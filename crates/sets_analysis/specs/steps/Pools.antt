@@ -13,6 +13,11 @@ pub record Lent (count : ℕ) (masks levels : List ℕ) : Type 0 where
   pub levels-full : length levels ≡ 1024
   pub few : count ≤ 1024
 
+-- the sets at the front of two pools, handed on without what follows them
+pub record Front (masks levels : List ℕ) : Type 0 where
+  pub paired : length levels ≡ length masks
+  pub few : length masks ≤ 1024
+
 -- what the code asks of a day: counts in range and lengths that fit, as a day that isn't refused has them
 pub record Fits (day : SetsDay) : Type 0 where
   pub few-choices : day.counts.choices ≤ 64

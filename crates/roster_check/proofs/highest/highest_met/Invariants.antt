@@ -5,4 +5,4 @@ use Rattle.roster_check.proofs.highest.highest_met.Given as goal
 
 abbrev pub invariant-loop-chooser : goal.invariant-loop-chooser
 invariant-loop-chooser l =
-    l.highest ≡ highest_below l.chooser (λ k. highest_below l.slots (preference_met l.choices l.slots l.preferences l.roster k))
+    l.highest ≡ highest_below l.chooser (λ k. highest_below l.sheet.counts.slots (preference_met l.sheet.counts.choices l.sheet.counts.slots l.sheet.preferences.now l.sheet.roster.now k))

@@ -4,34 +4,34 @@ use native.Mathlib.Omega.{arith}
 use Rattle.roster_check.proofs.CallLaws.{ranged, few_product}
 use Rattle.roster_check.proofs.roster_check.lengths_keep.Goals as goal
 
-pub returns-then-mins-counts : goal.returns-then-mins-counts
-returns-then-mins-counts c = length-mins _ c.if-mins-counts.true
+pub returns-then-sheet-counts : goal.returns-then-sheet-counts
+returns-then-sheet-counts c = length-mins _ c.if-sheet-counts.true
 
-pub returns-then-maxs-counts : goal.returns-then-maxs-counts
-returns-then-maxs-counts c = length-maxs _ c.if-mins-counts.false c.if-maxs-counts.true
+pub returns-then-sheet-counts-2 : goal.returns-then-sheet-counts-2
+returns-then-sheet-counts-2 c = length-maxs _ c.if-sheet-counts.false c.if-sheet-counts-2.true
 
-pub returns-then-levels-counts : goal.returns-then-levels-counts
-returns-then-levels-counts c = length-levels _ c.if-mins-counts.false c.if-maxs-counts.false c.if-levels-counts.true
+pub returns-then-sheet-counts-3 : goal.returns-then-sheet-counts-3
+returns-then-sheet-counts-3 c = length-levels _ c.if-sheet-counts.false c.if-sheet-counts-2.false c.if-sheet-counts-3.true
 
 pub overflow_mul-counts : goal.overflow_mul-counts
 overflow_mul-counts c =
-    let r = ranged c.args.counts c.requires in omega (arith, few_product _ _ r.rows.choosers r.rows.choices)
+    let r = ranged c.args.sheet.now.counts c.requires in omega (arith, few_product _ _ r.rows.choosers r.rows.choices)
 
-pub returns-then-preferences-counts : goal.returns-then-preferences-counts
-returns-then-preferences-counts c = length-preferences _ c.if-mins-counts.false c.if-maxs-counts.false c.if-levels-counts.false c.if-preferences-counts.true
+pub returns-then-sheet-counts-4 : goal.returns-then-sheet-counts-4
+returns-then-sheet-counts-4 c = length-preferences _ c.if-sheet-counts.false c.if-sheet-counts-2.false c.if-sheet-counts-3.false c.if-sheet-counts-4.true
 
-pub returns-then-rows-counts : goal.returns-then-rows-counts
-returns-then-rows-counts c = length-rows _ c.if-mins-counts.false c.if-maxs-counts.false c.if-levels-counts.false c.if-preferences-counts.false c.if-rows-counts.true
+pub returns-then-sheet-counts-5 : goal.returns-then-sheet-counts-5
+returns-then-sheet-counts-5 c = length-rows _ c.if-sheet-counts.false c.if-sheet-counts-2.false c.if-sheet-counts-3.false c.if-sheet-counts-4.false c.if-sheet-counts-5.true
 
-pub returns-then-assignment_rows-counts : goal.returns-then-assignment_rows-counts
-returns-then-assignment_rows-counts c = length-assignment _ c.if-mins-counts.false c.if-maxs-counts.false c.if-levels-counts.false c.if-preferences-counts.false c.if-rows-counts.false c.if-assignment_rows-counts.true
+pub returns-then-sheet-counts-6 : goal.returns-then-sheet-counts-6
+returns-then-sheet-counts-6 c = length-assignment _ c.if-sheet-counts.false c.if-sheet-counts-2.false c.if-sheet-counts-3.false c.if-sheet-counts-4.false c.if-sheet-counts-5.false c.if-sheet-counts-6.true
 
-pub returns-then-plan-counts : goal.returns-then-plan-counts
-returns-then-plan-counts c = length-plan _ c.if-mins-counts.false c.if-maxs-counts.false c.if-levels-counts.false c.if-preferences-counts.false c.if-rows-counts.false c.if-assignment_rows-counts.false c.if-plan-counts.true
+pub returns-then-sheet-counts-7 : goal.returns-then-sheet-counts-7
+returns-then-sheet-counts-7 c = length-plan _ c.if-sheet-counts.false c.if-sheet-counts-2.false c.if-sheet-counts-3.false c.if-sheet-counts-4.false c.if-sheet-counts-5.false c.if-sheet-counts-6.false c.if-sheet-counts-7.true
 
 pub overflow_mul-result : goal.overflow_mul-result
 overflow_mul-result c =
-    let r = ranged c.args.counts c.requires in omega (arith, few_product c.args.counts.choosers c.args.counts.slots r.rows.choosers (omega (arith, r.rows.slots)))
+    let r = ranged c.args.sheet.now.counts c.requires in omega (arith, few_product c.args.sheet.now.counts.choosers c.args.sheet.now.counts.slots r.rows.choosers (omega (arith, r.rows.slots)))
 
 pub returns : goal.returns
-returns c = length-decides _ c.if-mins-counts.false c.if-maxs-counts.false c.if-levels-counts.false c.if-preferences-counts.false c.if-rows-counts.false c.if-assignment_rows-counts.false c.if-plan-counts.false
+returns c = length-decides _ c.if-sheet-counts.false c.if-sheet-counts-2.false c.if-sheet-counts-3.false c.if-sheet-counts-4.false c.if-sheet-counts-5.false c.if-sheet-counts-6.false c.if-sheet-counts-7.false

@@ -1,7 +1,5 @@
 -- The passes over slots, seats, and the rows of both lists, one after the other.
 use mathlib.Core.Path.{sym, ◌∙◌}
-use native.Mathlib.Omega.{arith}
-use Rattle.roster_rows.proofs.CellLaws.{few-cells}
 use Rattle.roster_check.proofs.CallLaws.{passes-apart, passes_seats, passes-rows, passes-assignment}
 use Rattle.roster_check.proofs.roster_check.passes_all.Goals as goal
 
@@ -9,10 +7,11 @@ pub returns-then-not-all_apart : goal.returns-then-not-all_apart
 returns-then-not-all_apart c =
     passes-apart _ (sym c.all_apart.ensures ∙ c.if-not-all_apart.true)
 
+pub all_apart-requires : goal.all_apart-requires
+all_apart-requires c = c.requires
+
 pub seats_fit-requires : goal.seats_fit-requires
-seats_fit-requires c =
-    let j = c.requires in
-    (omega (arith, j.plan-fits, j.few-choices), omega (arith, j.plan-fits, j.mins-fit), omega (arith, j.plan-fits, j.maxs-fit), omega (arith, j.seated.cells, few-cells _ _ j.seated.few-slots j.seated.few-choosers))
+seats_fit-requires c = c.requires
 
 pub returns-then-not-seats_fit : goal.returns-then-not-seats_fit
 returns-then-not-seats_fit c =

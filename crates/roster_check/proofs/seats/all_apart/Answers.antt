@@ -10,11 +10,11 @@ loop-chooser-init c =
 
 pub overflow_mul-at : goal.overflow_mul-at
 overflow_mul-at c =
-    omega (arith, part_small _ _ _ _ refl _ c.requires c.loop-chooser-test.true)
+    omega (arith, part_small _ _ _ _ refl _ c.requires.seated c.loop-chooser-test.true)
 
 pub overflow_add-end : goal.overflow_add-end
 overflow_add-end c =
-    omega (arith, part_small _ _ _ _ refl _ c.requires c.loop-chooser-test.true)
+    omega (arith, part_small _ _ _ _ refl _ c.requires.seated c.loop-chooser-test.true)
 
 pub returns-then-not-slots_apart : goal.returns-then-not-slots_apart
 returns-then-not-slots_apart c =
@@ -22,7 +22,7 @@ returns-then-not-slots_apart c =
 
 pub loop-chooser-preserved : goal.loop-chooser-preserved
 loop-chooser-preserved c =
-    none-meets _ c.args.choosers _ _ _ (part_at _ _ _ _ refl) c.slots_apart.ensures (c.if-not-slots_apart.false) c.loop-chooser.invariant
+    none-meets _ c.args.sheet.now.counts.choosers _ _ _ (part_at _ _ _ _ refl) c.slots_apart.ensures (c.if-not-slots_apart.false) c.loop-chooser.invariant
 
 pub returns : goal.returns
 returns c =

@@ -8,4 +8,4 @@ use Rattle.roster_check.proofs.seats.all_apart.Given as goal
 
 abbrev pub invariant-loop-chooser : goal.invariant-loop-chooser
 invariant-loop-chooser l =
-    all_below l.chooser (λ k. slots_apart l.plan (cells_of l.slots l.roster k)) ≡ true
+    all_below l.chooser (λ k. slots_apart l.sheet.plan.now (cells_of l.sheet.counts.slots l.sheet.roster.now k)) ≡ true

@@ -7,4 +7,4 @@ use Rattle.roster_check.proofs.seats.seats_fit.Given as goal
 
 abbrev pub invariant-loop-choice : goal.invariant-loop-choice
 invariant-loop-choice l =
-    all_below l.choice (seats_fit l.mins l.maxs l.plan l.roster) ≡ true
+    all_below l.choice (seats_fit l.sheet.mins.now l.sheet.maxs.now l.sheet.plan.now l.sheet.roster.now) ≡ true

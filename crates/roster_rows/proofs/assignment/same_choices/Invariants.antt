@@ -9,4 +9,4 @@ use Rattle.roster_rows.proofs.assignment.same_choices.Given as goal
 
 abbrev pub invariant-loop-choice : goal.invariant-loop-choice
 invariant-loop-choice l =
-    all_below l.choice (λ k. eqb (times_in k (cells_of l.slots l.roster l.left)) (times_in k (cells_of l.slots l.roster l.right))) ≡ true
+    all_below l.choice (λ k. eqb (times_in k (cells_of l.roster.slots l.roster.cells.now l.left)) (times_in k (cells_of l.roster.slots l.roster.cells.now l.right))) ≡ true

@@ -9,4 +9,4 @@ use Rattle.roster_rows.proofs.assignment.same_choosers.Given as goal
 
 abbrev pub invariant-loop-chooser : goal.invariant-loop-chooser
 invariant-loop-chooser l =
-    all_below l.chooser (λ k. eqb (times_in l.left (cells_of l.slots l.roster k)) (times_in l.right (cells_of l.slots l.roster k))) ≡ true
+    all_below l.chooser (λ k. eqb (times_in l.left (cells_of l.roster.slots l.roster.cells.now k)) (times_in l.right (cells_of l.roster.slots l.roster.cells.now k))) ≡ true

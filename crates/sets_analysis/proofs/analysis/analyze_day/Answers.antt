@@ -1,5 +1,10 @@
 -- Too many sets, or the sets with their bound.
 use native.Mathlib.Omega.{arith}
+use Rattle.day_rows.specs.Levels.{last_level}
+use Rattle.sets_analysis.specs.SetsDay.{sets_day_lent}
+use Rattle.sets_analysis.specs.Bound.{lowered_to}
+use Rattle.sets_analysis.specs.steps.Pools.{Lent}
+use Rattle.sets_analysis.proofs.PoolSteps.{front-of, front-told}
 use Rattle.sets_analysis.proofs.CallSteps.{day-over, day-answer}
 use Rattle.sets_analysis.proofs.analysis.analyze_day.Goals as goal
 
@@ -27,11 +32,11 @@ simplified_if-count-requires c =
 
 pub bound_of-bound-requires : goal.bound_of-bound-requires
 bound_of-bound-requires c = (
-  record {
+  front-of (record {
     masks-full = omega (arith, c.masks-2-1.given, c.masks-1.given, c.requires.0.masks-full);
     levels-full = omega (arith, c.set_levels-2-1.given, c.set_levels-1.given, c.requires.0.levels-full);
     few = omega (arith, c.simplified_if-count.ensures.0, c.in-Some.ensures.0);
-  },
+  }),
   omega (arith, c.requires.1.some-levels, c.requires.1.levels-fit),
 )
 
@@ -53,8 +58,12 @@ shape_of-set_levels c =
 
 pub returns : goal.returns
 returns c =
-    day-answer _ _ _ _ _ _ _ _ _ c.in-Some.ensures.1 c.in-Some.ensures.0 c.simplified_if-count.ensures c.bound_of-bound.ensures (record {
+    let day = sets_day_lent c.args.day.now in
+    let lent : Lent c.simplified_if-count.result c.simplified_if-count.new.masks c.simplified_if-count.new.levels =
+    record {
       masks-full = omega (arith, c.masks-2-1.given, c.masks-1.given, c.requires.0.masks-full);
       levels-full = omega (arith, c.set_levels-2-1.given, c.set_levels-1.given, c.requires.0.levels-full);
       few = omega (arith, c.simplified_if-count.ensures.0, c.in-Some.ensures.0);
-    }) c.clear_past-2.ensures
+    } in
+    day-answer _ _ _ _ _ _ _ _ _ c.in-Some.ensures.1 c.in-Some.ensures.0 c.simplified_if-count.ensures
+    (front-told (λ sets. lowered_to day.counts.slots sets (last_level day.levels) day.levels) lent c.bound_of-bound.ensures) lent c.clear_past-2.ensures
