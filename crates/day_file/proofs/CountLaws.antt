@@ -78,24 +78,24 @@ within {counts} {places} {size} k e p =
 
 -- what each part asks of the file and, where it is filled from it, of its pool
 module _ {counts : FileCounts} {places : Places} {size : ℕ} (w : Within counts places size) where
-  pub mins_ask : {pool : ℕ} → pool ≡ 64 → (counts.choices ≤ pool) × ((k : ℕ) → k < counts.choices → 11 + 5 * k + 1 < size)
+  pub mins_ask : {pool : ℕ} → pool ≡ 64 → (counts.choices ≤ pool) × ((k : ℕ) → k < counts.choices → 11 + 5 * k + 2 ≤ size)
   mins_ask e = (omega arith, λ k h. omega arith)
 
-  pub maxs_ask : {pool : ℕ} → pool ≡ 64 → (counts.choices ≤ pool) × ((k : ℕ) → k < counts.choices → 13 + 5 * k + 1 < size)
+  pub maxs_ask : {pool : ℕ} → pool ≡ 64 → (counts.choices ≤ pool) × ((k : ℕ) → k < counts.choices → 13 + 5 * k + 2 ≤ size)
   maxs_ask e = (omega arith, λ k h. omega arith)
 
-  pub optional_ask : {pool : ℕ} → pool ≡ 64 → (counts.choices ≤ pool) × (11 + 5 * counts.choices ≤ size)
-  optional_ask e = (omega arith, omega arith)
+  pub optional_ask : {pool : ℕ} → pool ≡ 64 → (counts.choices ≤ pool) × ((k : ℕ) → k < counts.choices → 15 + 5 * k + 1 ≤ size)
+  optional_ask e = (omega arith, λ k h. omega arith)
 
-  pub levels_ask : {pool : ℕ} → pool ≡ 64 → (counts.levels ≤ pool) × ((k : ℕ) → k < counts.levels → places.levels + 2 * k + 1 < size)
+  pub levels_ask : {pool : ℕ} → pool ≡ 64 → (counts.levels ≤ pool) × ((k : ℕ) → k < counts.levels → places.levels + 2 * k + 2 ≤ size)
   levels_ask e = (omega arith, λ k h. omega arith)
 
   pub preferences_ask : {pool : ℕ} → pool ≡ 12800
-      → (counts.choosers * counts.choices ≤ pool) × ((k : ℕ) → k < counts.choosers * counts.choices → places.preferences + 2 * k + 1 < size)
+      → (counts.choosers * counts.choices ≤ pool) × ((k : ℕ) → k < counts.choosers * counts.choices → places.preferences + 2 * k + 2 ≤ size)
   preferences_ask e = (omega arith, λ k h. omega arith)
 
-  pub rows_ask : {pool : ℕ} → pool ≡ 128 → (counts.rows ≤ pool) × (places.rows + 6 * counts.rows ≤ size)
-  rows_ask e = (omega arith, omega arith)
+  pub rows_ask : {pool : ℕ} → pool ≡ 128 → (counts.rows ≤ pool) × ((k : ℕ) → k < counts.rows → places.rows + 6 * k + 6 ≤ size)
+  rows_ask e = (omega arith, λ k h. omega arith)
 
   pub levels-within : places.levels + 2 * counts.levels ≤ size
   levels-within = omega arith

@@ -2,7 +2,7 @@
 use mathlib.Core.Path.{◌≡◌, sym, ◌∙◌}
 use mathlib.Core.Bool.{Bool, true, false}
 use mathlib.Core.List.{List}
-use Prim.Native.Nat.{ℕ, ◌+◌, ◌*◌, ◌-◌, ◌≤◌, ◌<◌}
+use Prim.Native.Nat.{ℕ, ◌+◌, ◌-◌, ◌≤◌, ◌<◌}
 use native.Mathlib.Omega.{arith}
 use borrow.Author.Tests.{lt-ltb, le-ltb, le-leb, lt-leb}
 use lib.Dec.{ltb, leb}
@@ -15,7 +15,10 @@ use Rattle.base_lists.proofs.Through.{all_ext}
 use Rattle.base_lists.proofs.Flat.{length-list, get_d_list}
 use Rattle.day_rows.specs.Row.{row_number}
 use Rattle.day_rows.specs.Levels.{levels_rise, last_level}
-use Rattle.day_file.specs.File.{word_at, sign_bit_flipped, row_at}
+use Rattle.day_file.specs.File.{word_at, sign_bit_flipped, row_at, counts_in}
+use Rattle.day_file.specs.declared.counts.Column.{Column}
+use Rattle.day_file.specs.declared.counts.FileCounts.{FileCounts}
+use Rattle.day_file.specs.steps.Columns.{place}
 
 -- the columns that were read are the row's
 pub row_read : (file : List ℕ) (at : ℕ) {kind left right extra word number : ℕ}
@@ -25,26 +28,26 @@ unfolding row_at row_number
 row_read file at k l r w x n = n ∙ rw (k, l, r, x, w)
 
 -- the test of levels that rise, on words of the file
-abbrev pub rising : List ℕ → ℕ → ℕ → Bool
-rising file at i = ltb (word_at file (at + 2 * i)) (word_at file (at + 2 * (i + 1)))
+abbrev pub rising : List ℕ → Column → ℕ → Bool
+rising file levels i = ltb (word_at file (place levels i)) (word_at file (place levels (i + 1)))
 
-module _ (file : List ℕ) (at i : ℕ) {low high : ℕ} (h : high ≡ word_at file (at + 2 * (i + 1))) (l : low ≡ word_at file (at + 2 * i)) where
-  pub rise-fails : (n : ℕ) → i + 1 < n → high ≤ low → false ≡ all_below (n - 1) (rising file at)
-  rise-fails n k f = sym (one-fails (n - 1) (rising file at) i (omega arith) (le-ltb _ _ (rw (h, l) at f)))
+module _ (file : List ℕ) (levels : Column) (i : ℕ) {low high : ℕ} (l : low ≡ word_at file (place levels i)) (h : high ≡ word_at file (place levels (i + 1))) where
+  pub rise-fails : (n : ℕ) → i + 1 < n → high ≤ low → false ≡ all_below (n - 1) (rising file levels)
+  rise-fails n k f = sym (one-fails (n - 1) (rising file levels) i (omega arith) (le-ltb _ _ (rw (h, l) at f)))
 
-  pub rise-more : all_below i (rising file at) ≡ true → low < high → all_below (i + 1) (rising file at) ≡ true
-  rise-more a f = all_more (rising file at) i a (lt-ltb _ _ (rw (h, l) at f))
+  pub rise-more : all_below i (rising file levels) ≡ true → low < high → all_below (i + 1) (rising file levels) ≡ true
+  rise-more a f = all_more (rising file levels) i a (lt-ltb _ _ (rw (h, l) at f))
 
 -- the test of words of the file that are at most a limit
-abbrev pub under : List ℕ → ℕ → ℕ → ℕ → Bool
-under file at limit i = leb (word_at file (at + 2 * i)) limit
+abbrev pub under : List ℕ → Column → ℕ → ℕ → Bool
+under file words limit i = leb (word_at file (place words i)) limit
 
-module _ (file : List ℕ) (at limit i : ℕ) {v : ℕ} (e : v ≡ word_at file (at + 2 * i)) where
-  pub under-fails : (n : ℕ) → i < n → limit < v → false ≡ all_below n (under file at limit)
-  under-fails n k f = sym (one-fails n (under file at limit) i k (lt-leb _ _ (rw e at f)))
+module _ (file : List ℕ) (words : Column) (limit i : ℕ) {v : ℕ} (e : v ≡ word_at file (place words i)) where
+  pub under-fails : (n : ℕ) → i < n → limit < v → false ≡ all_below n (under file words limit)
+  under-fails n k f = sym (one-fails n (under file words limit) i k (lt-leb _ _ (rw e at f)))
 
-  pub under_more : all_below i (under file at limit) ≡ true → v ≤ limit → all_below (i + 1) (under file at limit) ≡ true
-  under_more a f = all_more (under file at limit) i a (le-leb _ _ (rw e at f))
+  pub under_more : all_below i (under file words limit) ≡ true → v ≤ limit → all_below (i + 1) (under file words limit) ≡ true
+  under_more a f = all_more (under file words limit) i a (le-leb _ _ (rw e at f))
 
 -- the tests of lists made by place are the tests on the bytes
 module _ (n : ℕ) (f : ℕ → ℕ) where

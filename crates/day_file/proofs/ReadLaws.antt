@@ -18,6 +18,7 @@ use Rattle.day_rows.proofs.ToldLaws.{unless-done, then_done}
 use Rattle.day_rows.specs.Levels.{levels_rise, last_level}
 use Rattle.day_file.specs.FileDay.{Parts, parts, day, row_counts, file_counts_in_range, day_rows_judged, pools_full, padded}
 use Rattle.day_file.specs.File.{word_at, row_at, places_of, length_in, version_in, counts_in, lists_in, day_in}
+use Rattle.day_file.specs.steps.Columns.{column}
 use Rattle.day_file.specs.Calls.{head_judged, body_judged, file_judged, read_of}
 use Rattle.day_file.specs.declared.counts.FileCounts.{FileCounts}
 use Rattle.day_file.specs.declared.counts.Places.{Places}
@@ -98,12 +99,12 @@ module _ (file : List ℕ) (counts : FileCounts) {places : Places} (p : places �
     unfolding body_judged
     body_optional h = rw (optional-is ∙ h)
 
-    module _ (oh : o ≡ true) {l : Bool} (lt : l ≡ all_below (counts.levels - 1) (rising file places.levels)) where
+    module _ (oh : o ≡ true) {l : Bool} (lt : l ≡ all_below (counts.levels - 1) (rising file (column places.levels 2 counts.levels))) where
       levels-is : levels_rise (lists_in file counts).levels ≡ l
       unfolding lists_in
       levels-is =
           rise-list counts.levels (λ i. word_at file ((places_of 5 counts).levels + 2 * i))
-          ∙ sym (ap (λ (q : Places). all_below (counts.levels - 1) (rising file q.levels)) p)
+          ∙ sym (ap (λ (q : Places). all_below (counts.levels - 1) (rising file (column q.levels 2 counts.levels))) p)
           ∙ sym lt
 
       pub body_levels : l ≡ false → refuse 3 ≡ body_judged (day counts (lists_in file counts))
@@ -111,7 +112,7 @@ module _ (file : List ℕ) (counts : FileCounts) {places : Places} (p : places �
       body_levels h = rw (optional-is ∙ oh, levels-is ∙ h)
 
       module _ (lh : l ≡ true) (w : Within counts places (length file)) {last : ℕ} (e : last ≡ word_at file (places.preferences - 2))
-          {f : Bool} (ft : f ≡ all_below (counts.choosers * counts.choices) (under file places.preferences last)) where
+          {f : Bool} (ft : f ≡ all_below (counts.choosers * counts.choices) (under file (column places.preferences 2 (counts.choosers * counts.choices)) last)) where
         last-is : last_level (lists_in file counts).levels ≡ last
         unfolding lists_in
         last-is =
@@ -125,7 +126,7 @@ module _ (file : List ℕ) (counts : FileCounts) {places : Places} (p : places �
         preferences-is =
             ap (λ (n : ℕ). all_at_most n (lists_in file counts).preferences) last-is
             ∙ at-most-list (counts.choosers * counts.choices) (λ i. word_at file ((places_of 5 counts).preferences + 2 * i)) last
-            ∙ sym (ap (λ (q : Places). all_below (counts.choosers * counts.choices) (under file q.preferences last)) p)
+            ∙ sym (ap (λ (q : Places). all_below (counts.choosers * counts.choices) (under file (column q.preferences 2 (counts.choosers * counts.choices)) last)) p)
             ∙ sym ft
 
         pub body_preference : f ≡ false → refuse 4 ≡ body_judged (day counts (lists_in file counts))

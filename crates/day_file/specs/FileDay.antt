@@ -9,6 +9,7 @@ use Rattle.day_rows.specs.declared.check.Takes.TheVariants as takes
 use Rattle.day_rows.specs.Told.{Verdict, done, refused}
 use Rattle.day_rows.specs.Levels.{levels_in_range, levels_rise, last_level}
 use Rattle.day_file.specs.declared.counts.FileCounts.{FileCounts}
+use Rattle.day_file.specs.declared.day.FileDay as lent
 
 -- the lists of a day, preferences chooser by chooser; also the pools that a reader fills with them
 pub record Parts : Type 0 where
@@ -37,6 +38,12 @@ pub record FileDay : Type 0 where
 
 abbrev pub day : FileCounts → Parts → FileDay
 day counts lists = record { counts = counts; lists = lists }
+
+-- the day that a call is lent
+abbrev pub file_day_lent : lent.FileDay → FileDay
+file_day_lent given =
+    day given.counts
+    (parts given.mins.now given.maxs.now given.optional.now given.levels.now given.preferences.now given.rows.now)
 
 -- the counts of a file that the row check takes
 abbrev pub row_counts : FileCounts → Counts

@@ -1,3 +1,4 @@
 pub mod Calls
 pub mod File
 pub mod FileDay
+pub mod steps

@@ -2,6 +2,7 @@
 ghost use Rattle.std.specs.Prelude.{◌≡◌, true};
 ghost use Rattle.day_file.specs.FileDay.{row_counts, file_counts_in_range};
 ghost use Rattle.day_file.specs.File.{places_of};
+ghost use Rattle.day_file.specs.steps.Columns.{column, columns_of};
 
 use day_rows::check::{Counts, Takes};
 
@@ -23,6 +24,33 @@ pub struct Places {
     pub preferences: usize,
     pub rows: usize,
     pub end: usize,
+}
+
+// A list as it stands in a file: the place of its first entry, how far apart its entries are, and how many.
+#[derive(Clone, Copy)]
+pub(crate) struct Column {
+    pub at: usize,
+    pub step: usize,
+    pub count: usize,
+}
+
+impl Column {
+    fn new(at: usize, step: usize, count: usize) -> Column
+        ensures { result ≡ column at step count }
+    {
+        Column { at, step, count }
+    }
+}
+
+// The six lists of a file.
+#[derive(Clone, Copy)]
+pub(crate) struct Columns {
+    pub mins: Column,
+    pub maxs: Column,
+    pub optional: Column,
+    pub levels: Column,
+    pub preferences: Column,
+    pub rows: Column,
 }
 
 impl FileCounts {
@@ -64,6 +92,23 @@ impl FileCounts {
             preferences,
             rows,
             end: rows + 6 * self.rows,
+        }
+    }
+
+    // Where the lists of a file with these counts stand: five bytes a choice, two a level and a preference, six a
+    // row.
+    pub(crate) fn columns(self) -> Columns
+        requires { file_counts_in_range self ≡ true }
+        ensures { result ≡ columns_of self }
+    {
+        let places = self.places();
+        Columns {
+            mins: Column::new(11, 5, self.choices),
+            maxs: Column::new(13, 5, self.choices),
+            optional: Column::new(15, 5, self.choices),
+            levels: Column::new(places.levels, 2, self.levels),
+            preferences: Column::new(places.preferences, 2, self.choosers * self.choices),
+            rows: Column::new(places.rows, 6, self.rows),
         }
     }
 }

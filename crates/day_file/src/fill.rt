@@ -1,74 +1,70 @@
 // Filling a pool from a file: the values from the front, zero past them.
-ghost use Rattle.std.specs.Prelude.{◌≡◌, ℕ, ◌+◌, ◌*◌, ◌<◌, ◌≤◌, length, get_or, take};
-ghost use Rattle.base_lists.specs.Flat.{list_below};
+ghost use Rattle.std.specs.Prelude.{◌≡◌, ◌≤◌, length, take};
 ghost use Rattle.base_lists.specs.Pool.{pad};
-ghost use Rattle.day_file.specs.File.{word_at, row_at};
+ghost use Rattle.day_file.specs.steps.Columns.{Stands, flags_of, words_of, rows_of};
 
+use super::counts::Column;
 use super::word::{row_at, word_at};
 
-// Puts the n words that stand `step` bytes apart in the file into the front of a pool. Words, optional bytes
-// and rows have a function each, since each read asks (`requires`) for its own bytes.
-fn put_words(file: &[u8], at: usize, step: usize, n: usize, pool: &mut [u16])
-    requires room { n ≤ length pool.old }
-    requires within { (k : ℕ) → k < n → at + step * k + 1 < length file.now }
-    ensures { take n pool.new ≡ list_below n (λ k. word_at file.now (at + step * k)) }
+// Puts the words of a column into the front of a pool.
+fn put_words(file: &[u8], words: Column, pool: &mut [u16])
+    requires room { words.count ≤ length pool.old }
+    requires within { Stands file.now words 2 }
+    ensures { take words.count pool.new ≡ words_of file.now words }
 {
-    for i in 0..n {
-        pool[i] = word_at(file, at + step * i);
+    for i in 0..words.count {
+        pool[i] = word_at(file, words.at + words.step * i);
     }
 }
 
-// Fills a pool of words: the n that stand `step` bytes apart in the file, then zeros.
-pub(crate) fn fill_words(file: &[u8], at: usize, step: usize, n: usize, pool: &mut [u16])
-    requires room { n ≤ length pool.old }
-    requires within { (k : ℕ) → k < n → at + step * k + 1 < length file.now }
-    ensures { let words = list_below n (λ k. word_at file.now (at + step * k)) in
-        pool.new ≡ pad (length pool.old) words }
+// Fills a pool of words: those of a column, then zeros.
+pub(crate) fn fill_words(file: &[u8], words: Column, pool: &mut [u16])
+    requires room { words.count ≤ length pool.old }
+    requires within { Stands file.now words 2 }
+    ensures { pool.new ≡ pad (length pool.old) (words_of file.now words) }
 {
-    put_words(file, at, step, n, pool);
-    pool[n..].fill(0);
+    put_words(file, words, pool);
+    pool[words.count..].fill(0);
 }
 
-// Puts the optional bytes of n choices into the front of a pool.
-fn put_optional(file: &[u8], n: usize, pool: &mut [u8])
-    requires room { n ≤ length pool.old }
-    requires within { 11 + 5 * n ≤ length file.now }
-    ensures { take n pool.new ≡ list_below n (λ k. get_or file.now (15 + 5 * k) 0) }
+// Puts the bytes of a column into the front of a pool.
+fn put_optional(file: &[u8], flags: Column, pool: &mut [u8])
+    requires room { flags.count ≤ length pool.old }
+    requires within { Stands file.now flags 1 }
+    ensures { take flags.count pool.new ≡ flags_of file.now flags }
 {
-    for i in 0..n {
-        pool[i] = file[15 + 5 * i];
+    for i in 0..flags.count {
+        pool[i] = file[flags.at + flags.step * i];
     }
 }
 
-// Fills a pool of optional bytes: those of n choices, then zeros.
-pub(crate) fn fill_optional(file: &[u8], n: usize, pool: &mut [u8])
-    requires room { n ≤ length pool.old }
-    requires within { 11 + 5 * n ≤ length file.now }
-    ensures { let flags = list_below n (λ k. get_or file.now (15 + 5 * k) 0) in
-        pool.new ≡ pad (length pool.old) flags }
+// Fills a pool of optional bytes: those of a column, then zeros.
+pub(crate) fn fill_optional(file: &[u8], flags: Column, pool: &mut [u8])
+    requires room { flags.count ≤ length pool.old }
+    requires within { Stands file.now flags 1 }
+    ensures { pool.new ≡ pad (length pool.old) (flags_of file.now flags) }
 {
-    put_optional(file, n, pool);
-    pool[n..].fill(0);
+    put_optional(file, flags, pool);
+    pool[flags.count..].fill(0);
 }
 
-// Puts the n rows from a place of the file on into the front of a pool.
-pub(crate) fn put_rows(file: &[u8], at: usize, n: usize, pool: &mut [u64])
-    requires room { n ≤ length pool.old }
-    requires within { at + 6 * n ≤ length file.now }
-    ensures { take n pool.new ≡ list_below n (λ k. row_at file.now (at + 6 * k)) }
+// Puts the rows of a column into the front of a pool.
+pub(crate) fn put_rows(file: &[u8], rows: Column, pool: &mut [u64])
+    requires room { rows.count ≤ length pool.old }
+    requires within { Stands file.now rows 6 }
+    ensures { take rows.count pool.new ≡ rows_of file.now rows }
 {
-    for i in 0..n {
-        pool[i] = row_at(file, at + 6 * i);
+    for i in 0..rows.count {
+        pool[i] = row_at(file, rows.at + rows.step * i);
     }
 }
 
-// Fills a pool of rows: the n from a place of the file on, then zeros.
-pub(crate) fn fill_rows(file: &[u8], at: usize, n: usize, pool: &mut [u64])
-    requires room { n ≤ length pool.old }
-    requires within { at + 6 * n ≤ length file.now }
-    ensures { let rows = list_below n (λ k. row_at file.now (at + 6 * k)) in
-        pool.new ≡ pad (length pool.old) rows }
+// Fills a pool of rows: those of a column, then zeros.
+pub(crate) fn fill_rows(file: &[u8], rows: Column, pool: &mut [u64])
+    requires room { rows.count ≤ length pool.old }
+    requires within { Stands file.now rows 6 }
+    ensures { pool.new ≡ pad (length pool.old) (rows_of file.now rows) }
 {
-    put_rows(file, at, n, pool);
-    pool[n..].fill(0);
+    put_rows(file, rows, pool);
+    pool[rows.count..].fill(0);
 }

@@ -2,6 +2,7 @@
 #![tactic(auto)]
 
 pub mod counts;
+pub mod day;
 pub mod file_words;
 mod fill;
 mod judge;

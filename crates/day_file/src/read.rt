@@ -65,23 +65,18 @@ fn judge_body(file: &[u8], counts: FileCounts) -> Result<(), Refusal>
     requires end { (places_of 5 counts).end ≡ length file.now }
     ensures { tells result ≡ body_judged (day counts (lists_in file.now counts)) }
 {
-    let places = counts.places();
-    if !optional_in(file, counts.choices) {
+    let lists = counts.columns();
+    if !optional_in(file, lists.optional) {
         return Err(Refusal::Optional);
     }
-    if !levels_in(file, places.levels, counts.levels) {
+    if !levels_in(file, lists.levels) {
         return Err(Refusal::Levels);
     }
-    let last = word_at(file, places.preferences - 2);
-    if !preferences_in(
-        file,
-        places.preferences,
-        counts.choosers * counts.choices,
-        last,
-    ) {
+    let last = word_at(file, lists.preferences.at - 2);
+    if !preferences_in(file, lists.preferences, last) {
         return Err(Refusal::Preference);
     }
-    rows_in(file, places.rows, counts.rows, counts.for_rows())
+    rows_in(file, lists.rows, counts.for_rows())
 }
 
 // The whole file judged, head and body, with no pool touched.
@@ -140,19 +135,13 @@ fn fill_pools(
         levels.new preferences.new rows.new in
         filled ≡ padded (lists_in file.now counts) }
 {
-    let places = counts.places();
-    fill_words(file, 11, 5, counts.choices, mins);
-    fill_words(file, 13, 5, counts.choices, maxs);
-    fill_optional(file, counts.choices, optional);
-    fill_words(file, places.levels, 2, counts.levels, levels);
-    fill_words(
-        file,
-        places.preferences,
-        2,
-        counts.choosers * counts.choices,
-        preferences,
-    );
-    fill_rows(file, places.rows, counts.rows, rows);
+    let lists = counts.columns();
+    fill_words(file, lists.mins, mins);
+    fill_words(file, lists.maxs, maxs);
+    fill_optional(file, lists.optional, optional);
+    fill_words(file, lists.levels, levels);
+    fill_words(file, lists.preferences, preferences);
+    fill_rows(file, lists.rows, rows);
 }
 
 // Reads a day: its counts, and its lists in the lent pools.

@@ -1,6 +1,6 @@
 -- Writing and reading are each other's way back, every day can be written, and no two outcomes fit the
 -- writer's promise.
-use mathlib.Core.Path.{◌≡◌, refl, sym, ◌∙◌, ap}
+use mathlib.Core.Path.{◌≡◌, sym, ◌∙◌, ap}
 use mathlib.Core.Bool.{true}
 use mathlib.Core.List.{List}
 use Prim.Native.Nat.{ℕ, ◌≤◌}
@@ -9,8 +9,10 @@ use borrow.Author.Tests.{eq-eqb}
 use lib.ListN.{length, take}
 use lib.Seq.{take_at}
 use Rattle.base_lists.specs.Pool.{pad}
-use Rattle.day_rows.specs.Told.{Told, done, refused, good, Outcome, outcome}
-use Rattle.day_rows.proofs.ToldLaws.{refusal_of, refusal-back, one-outcome, done-is}
+use Rattle.std.specs.Prelude.{Result}
+use Rattle.day_rows.specs.Told.{done, good, Outcome, outcome, tells}
+use Rattle.day_rows.specs.declared.refusal.Refusal.{Refusal}
+use Rattle.day_rows.proofs.ToldLaws.{one_told-outcome, done-is}
 use Rattle.day_file.specs.FileDay.{Parts, FileDay, is_day, pools_full, padded}
 use Rattle.day_file.specs.File.{bytes_of, day_in, longest_file}
 use Rattle.day_file.specs.Calls.{file_judged, read_of}
@@ -18,9 +20,7 @@ use Rattle.day_file.proofs.CountLaws.{in_range}
 use Rattle.day_file.proofs.FileLaws.{lengths, length-bytes, end-most}
 use Rattle.day_file.proofs.FormatLaws.{Bytes}
 use Rattle.day_file.proofs.DayLaws.{IsDay, day-says, day_of-file, file-back, reads_back}
-use Rattle.day_write.specs.Calls.{lists_judged, day_judged, written_tells, write_of}
-use Rattle.day_write.specs.declared.write.Written.{Written}
-use Rattle.day_write.specs.declared.write.Written.TheVariants as written
+use Rattle.day_write.specs.Calls.{lists_judged, day_judged, write_of}
 
 -- the file of every day within the limits fits the pool
 pub day-fits : (d : FileDay) → is_day d ≡ true → length (bytes_of d) ≤ longest_file
@@ -57,16 +57,7 @@ read-writes file bytes g pool e =
     rw (judged-good (day_in file) (day_of-file file bytes g) (length pool) e)
     (ap (λ (l : List ℕ). outcome (done (length l)) (pad longest_file l)) (file-back file bytes g))
 
--- the writer's answer, read back from what it tells
-abbrev pub written_of : Told ℕ → Written
-written_of (done size) = written.Bytes size
-written_of (refused number carried) = written.Refused (refusal_of number carried)
-
-pub written_back : (answer : Written) → written_of (written_tells answer) ≡ answer
-written_back (written.Bytes size) = refl
-written_back (written.Refused why) = ap written.Refused (refusal-back why)
-
 -- no two outcomes fit the writer's promise
-pub one_writing : (d : FileDay) (before : List ℕ) {r s : Written} {p q : List ℕ} → outcome (written_tells r) p ≡ write_of d before → outcome (written_tells s) q ≡ write_of d before
+pub one_writing : (d : FileDay) (before : List ℕ) {r s : Result ℕ Refusal} {p q : List ℕ} → outcome (tells r) p ≡ write_of d before → outcome (tells s) q ≡ write_of d before
     → (r ≡ s) × (p ≡ q)
-one_writing d before = one-outcome written_tells written_of written_back
+one_writing d before = one_told-outcome

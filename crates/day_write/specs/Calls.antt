@@ -2,12 +2,10 @@
 use Rattle.std.specs.Prelude.{List, ℕ, eqb, length}
 use Rattle.base_lists.specs.All.{all_at_most}
 use Rattle.base_lists.specs.Pool.{pad}
-use Rattle.day_rows.specs.Told.{Told, done, Verdict, good, refusal_tells, unless, and_then, Outcome, outcome, judged}
+use Rattle.day_rows.specs.Told.{done, Verdict, good, unless, and_then, Outcome, outcome, judged}
 use Rattle.day_rows.specs.Levels.{levels_rise, last_level}
 use Rattle.day_file.specs.FileDay.{FileDay, file_counts_in_range, file_lengths_fit, day_rows_judged}
 use Rattle.day_file.specs.File.{bytes_of, longest_file}
-use Rattle.day_write.specs.declared.write.Written.{Written}
-use Rattle.day_write.specs.declared.write.Written.TheVariants as written
 
 -- a day's lists judged: 3, 4, 5, 13
 unfoldable pub lists_judged : FileDay → Verdict
@@ -23,11 +21,6 @@ day_judged d room =
     unless (file_counts_in_range d.counts) 1
     (unless (file_lengths_fit d.counts d.lists) 2
     (unless (eqb room longest_file) 2 (lists_judged d)))
-
--- what a writer's answer tells: how many bytes of the pool the file takes, or 01's number
-abbrev pub written_tells : Written → Told ℕ
-written_tells (written.Bytes size) = done size
-written_tells (written.Refused why) = refusal_tells why
 
 -- what writing leaves: how many bytes the file takes, the pool zero past them; or a number and the pool
 -- untouched

@@ -8,6 +8,7 @@ ghost use Rattle.day_write.specs.steps.Held.{BytesHold};
 
 use super::word::{put_row, put_word};
 use day_file::counts::FileCounts;
+use day_file::day::FileDay;
 
 // The length of the rest of a file with these counts: all but its first four bytes.
 fn rest_of(counts: FileCounts) -> usize
@@ -20,8 +21,8 @@ fn rest_of(counts: FileCounts) -> usize
 
 // Puts the four bytes of the rest's length at the start of a pool.
 fn put_length(pool: &mut [u8], rest: usize)
-    requires fact_1 { rest < 65536 * 65536 }
-    requires fact_2 { 11 ≤ length pool.old }
+    requires fits { rest < 65536 * 65536 }
+    requires room { 11 ≤ length pool.old }
     ensures { pool.new ≡ sets pool.old 0 (word (rest / 65536) ++ word (rest % 65536)) }
 {
     put_word(pool, 0, (rest / 65536) as u16);
@@ -30,8 +31,8 @@ fn put_length(pool: &mut [u8], rest: usize)
 
 // Puts version, C, S, H, L and the row count from byte 4 on.
 fn put_counts(pool: &mut [u8], counts: FileCounts)
-    requires fact_1 { file_counts_in_range counts ≡ true }
-    requires fact_2 { 11 ≤ length pool.old }
+    requires ranges { file_counts_in_range counts ≡ true }
+    requires room { 11 ≤ length pool.old }
     ensures { let numbers = counts.choices ∷ counts.slots ∷ counts.choosers ∷ counts.levels ∷ word counts.rows in
         pool.new ≡ sets pool.old 4 (1 ∷ numbers) }
 {
@@ -45,8 +46,8 @@ fn put_counts(pool: &mut [u8], counts: FileCounts)
 
 // Puts the head of a file: length of the rest, version, counts.
 pub(crate) fn put_head(pool: &mut [u8], counts: FileCounts)
-    requires fact_1 { file_counts_in_range counts ≡ true }
-    requires fact_2 { 11 ≤ length pool.old }
+    requires ranges { file_counts_in_range counts ≡ true }
+    requires room { 11 ≤ length pool.old }
     ensures { pool.new ≡ sets pool.old 0 (head_bytes 1 counts) }
 {
     put_length(pool, rest_of(counts));
@@ -63,23 +64,21 @@ fn put_choice(pool: &mut [u8], at: usize, min: u16, max: u16, optional: u8)
     pool[at + 4] = optional;
 }
 
-// Puts n choices from byte 11 on, one after the other; the answer is the place past them.
-pub(crate) fn put_choices(
-    pool: &mut [u8],
-    n: usize,
-    mins: &[u16],
-    maxs: &[u16],
-    optional: &[u8],
-) -> usize
-    requires fact_1 { n ≤ length mins.now }
-    requires fact_2 { n ≤ length maxs.now }
-    requires fact_3 { n ≤ length optional.now }
-    requires fact_4 { 11 + 5 * n ≤ length pool.old }
-    ensures fact_1 { let bytes = join_below n (choice_bytes mins.now maxs.now optional.now) in
-        result ≡ 11 + 5 * n }
-    ensures fact_2 { let bytes = join_below n (choice_bytes mins.now maxs.now optional.now) in
-        pool.new ≡ sets pool.old 11 bytes }
+// Puts a day's choices from byte 11 on, one after the other; the answer is the place past them.
+pub(crate) fn put_choices(pool: &mut [u8], day: &FileDay) -> usize
+    requires lengths { let day = day.now in
+        let choices = day.counts.choices in
+        (choices ≤ length day.mins.now) × (choices ≤ length day.maxs.now) × (choices ≤ length day.optional.now) }
+    requires room { 11 + 5 * day.now.counts.choices ≤ length pool.old }
+    ensures end { result ≡ 11 + 5 * day.now.counts.choices }
+    ensures bytes { let day = day.now in
+        let bytes = choice_bytes day.mins.now day.maxs.now day.optional.now in
+        pool.new ≡ sets pool.old 11 (join_below day.counts.choices bytes) }
 {
+    let n = day.counts.choices;
+    let mins = day.mins;
+    let maxs = day.maxs;
+    let optional = day.optional;
     for i in 0..n {
         put_choice(pool, 11 + 5 * i, mins[i], maxs[i], optional[i]);
     }
@@ -89,12 +88,9 @@ pub(crate) fn put_choices(
 // Puts a list of words from a place on, one after the other; the answer is the place past them.
 pub(crate) fn put_words(pool: &mut [u8], at: usize, words: &[u16]) -> usize
     requires { at + 2 * length words.now ≤ length pool.old }
-    ensures fact_1 { let list = words.now in
-        let bytes = join_below (length list) (λ i. word (get_or list i 0)) in
-        result ≡ at + 2 * length list }
-    ensures fact_2 { let list = words.now in
-        let bytes = join_below (length list) (λ i. word (get_or list i 0)) in
-        pool.new ≡ sets pool.old at bytes }
+    ensures end { result ≡ at + 2 * length words.now }
+    ensures bytes { let list = words.now in
+        pool.new ≡ sets pool.old at (join_below (length list) (λ i. word (get_or list i 0))) }
 {
     for (i, word) in words.iter().enumerate() {
         put_word(pool, at + 2 * i, *word);
@@ -102,16 +98,14 @@ pub(crate) fn put_words(pool: &mut [u8], at: usize, words: &[u16]) -> usize
     at + 2 * words.len()
 }
 
-// Puts a list of rows from a place on, one after the other; the answer is the place past them.
+// Puts a list of rows from a place on, one after the other; the answer is the place past them. It stands beside
+// `put_words`, since a row takes six bytes and asks for columns that fit them.
 pub(crate) fn put_rows(pool: &mut [u8], at: usize, rows: &[u64]) -> usize
-    requires fact_1 { at + 6 * length rows.now ≤ length pool.old }
-    requires fact_2 { ((i : ℕ) → i < length rows.now → BytesHold (get_or rows.now i 0)) }
-    ensures fact_1 { let list = rows.now in
-        let bytes = join_below (length list) (λ i. row_bytes (get_or list i 0)) in
-        result ≡ at + 6 * length list }
-    ensures fact_2 { let list = rows.now in
-        let bytes = join_below (length list) (λ i. row_bytes (get_or list i 0)) in
-        pool.new ≡ sets pool.old at bytes }
+    requires room { at + 6 * length rows.now ≤ length pool.old }
+    requires held { (i : ℕ) → i < length rows.now → BytesHold (get_or rows.now i 0) }
+    ensures end { result ≡ at + 6 * length rows.now }
+    ensures bytes { let list = rows.now in
+        pool.new ≡ sets pool.old at (join_below (length list) (λ i. row_bytes (get_or list i 0))) }
 {
     for (i, row) in rows.iter().enumerate() {
         put_row(pool, at + 6 * i, *row);

@@ -18,11 +18,11 @@ pub(crate) fn put_word(pool: &mut [u8], at: usize, v: u16)
 
 // Puts a row's six bytes from a place on. Its kind and its left column fit a byte each.
 pub(crate) fn put_row(pool: &mut [u8], at: usize, number: u64)
-    requires fact_1 { at + 5 < length pool.old }
-    requires fact_2 { BytesHold number }
+    requires room { at + 5 < length pool.old }
+    requires held { BytesHold number }
     ensures { pool.new ≡ sets pool.old at (row_bytes number) }
 {
-    let row = Row::of(number);
+    let row = Row::from(number);
     pool[at] = row.kind as u8;
     pool[at + 1] = row.left as u8;
     put_word(pool, at + 2, row.right);

@@ -1,182 +1,98 @@
 // Writing a day file: the day is judged first, then its bytes are put into the lent pool.
-ghost use Rattle.std.specs.Prelude.{◌≡◌, true, List, ℕ, length};
+ghost use Rattle.std.specs.Prelude.{◌≡◌, true, length};
 ghost use Rattle.base_lists.specs.Pool.{pad};
-ghost use Rattle.day_rows.specs.Check.{checked_tells};
-ghost use Rattle.day_rows.specs.Told.{done, good, outcome};
-ghost use Rattle.day_file.specs.FileDay.{parts, day, file_counts_in_range, file_lengths_fit, day_rows_judged};
+ghost use Rattle.day_rows.specs.Told.{done, good, outcome, tells};
+ghost use Rattle.day_file.specs.FileDay.{file_day_lent, file_counts_in_range, file_lengths_fit, day_rows_judged};
 ghost use Rattle.day_file.specs.File.{bytes_of, longest_file};
-ghost use Rattle.day_write.specs.Calls.{lists_judged, day_judged, written_tells, write_of};
+ghost use Rattle.day_write.specs.Calls.{lists_judged, day_judged, write_of};
 
 use super::put::{put_choices, put_head, put_rows, put_words};
-use day_file::counts::FileCounts;
+use day_file::day::FileDay;
 use day_file::word::LONGEST_FILE;
-use day_rows::check::{Checked, Takes};
+use day_rows::check::{Takes, check_each_row};
 use day_rows::lists::{flags_fit, last_level, levels_rise, preferences_keep};
 use day_rows::refusal::Refusal;
 
-// What writing answers: how many bytes of the pool the file takes, or why there is none.
-#[derive(Clone, Copy)]
-pub enum Written {
-    Bytes(usize),
-    Refused(Refusal),
-}
-
 // Whether each list of a day is as long as its counts give.
-fn lengths_keep(
-    counts: FileCounts,
-    mins: &[u16],
-    maxs: &[u16],
-    optional: &[u8],
-    levels: &[u16],
-    preferences: &[u16],
-    rows: &[u64],
-) -> bool
-    requires { file_counts_in_range counts ≡ true }
-    ensures { let lists = parts mins.now maxs.now optional.now
-        levels.now preferences.now rows.now in
-        result ≡ file_lengths_fit counts lists }
+fn lengths_keep(day: &FileDay) -> bool
+    requires { file_counts_in_range day.now.counts ≡ true }
+    ensures { let day = file_day_lent day.now in result ≡ file_lengths_fit day.counts day.lists }
 {
-    if mins.len() != counts.choices {
+    let counts = day.counts;
+    if day.mins.len() != counts.choices {
         return false;
     }
-    if maxs.len() != counts.choices {
+    if day.maxs.len() != counts.choices {
         return false;
     }
-    if optional.len() != counts.choices {
+    if day.optional.len() != counts.choices {
         return false;
     }
-    if levels.len() != counts.levels {
+    if day.levels.len() != counts.levels {
         return false;
     }
-    if preferences.len() != counts.choosers * counts.choices {
+    if day.preferences.len() != counts.choosers * counts.choices {
         return false;
     }
-    rows.len() == counts.rows
+    day.rows.len() == counts.rows
 }
 
 // A day judged with no pool touched: numbers 1, 2, 3, 4, 5, 13, 'Lowest number first'.
-fn judge_day(
-    counts: FileCounts,
-    mins: &[u16],
-    maxs: &[u16],
-    optional: &[u8],
-    levels: &[u16],
-    preferences: &[u16],
-    rows: &[u64],
-    room: usize,
-) -> Checked
-    ensures { let lists = parts mins.now maxs.now optional.now
-        levels.now preferences.now rows.now in
-        checked_tells result ≡ day_judged (day counts lists) room }
+fn judge_day(day: &FileDay, room: usize) -> Result<(), Refusal>
+    ensures { tells result ≡ day_judged (file_day_lent day.now) room }
 {
-    if !counts.in_range() {
-        return Checked::Refused(Refusal::Count);
+    if !day.counts.in_range() {
+        return Err(Refusal::Count);
     }
-    if !lengths_keep(counts, mins, maxs, optional, levels, preferences, rows) {
-        return Checked::Refused(Refusal::Length);
+    if !lengths_keep(day) {
+        return Err(Refusal::Length);
     }
     if room != LONGEST_FILE {
-        return Checked::Refused(Refusal::Length);
+        return Err(Refusal::Length);
     }
-    judge_lists(counts, optional, levels, preferences, rows)
+    judge_lists(day)
 }
 
 // The lists of a day, as long as their counts give, judged: numbers 3, 4, 5, 13.
-fn judge_lists(
-    counts: FileCounts,
-    optional: &[u8],
-    levels: &[u16],
-    preferences: &[u16],
-    rows: &[u64],
-) -> Checked
-    ensures { (mins maxs : List ℕ) → checked_tells result ≡ lists_judged (day counts (parts mins maxs
-        optional.now levels.now preferences.now rows.now)) }
+fn judge_lists(day: &FileDay) -> Result<(), Refusal>
+    ensures { tells result ≡ lists_judged (file_day_lent day.now) }
 {
-    if !levels_rise(levels) {
-        return Checked::Refused(Refusal::Levels);
+    if !levels_rise(day.levels) {
+        return Err(Refusal::Levels);
     }
-    if !preferences_keep(last_level(levels), preferences) {
-        return Checked::Refused(Refusal::Preference);
+    if !preferences_keep(last_level(day.levels), day.preferences) {
+        return Err(Refusal::Preference);
     }
-    let judged = day_rows::check::check_each_row(counts.for_rows(), Takes::Given, rows);
-    if let Checked::Refused(why) = judged {
-        return Checked::Refused(why);
+    check_each_row(day.counts.for_rows(), Takes::Given, day.rows)?;
+    if !flags_fit(day.optional) {
+        return Err(Refusal::Optional);
     }
-    if !flags_fit(optional) {
-        return Checked::Refused(Refusal::Optional);
-    }
-    Checked::Good
+    Ok(())
 }
 
 // Puts the bytes of a day that was judged good into the pool, zeros past them; the answer is how many they
 // are.
-fn put_day(
-    counts: FileCounts,
-    mins: &[u16],
-    maxs: &[u16],
-    optional: &[u8],
-    levels: &[u16],
-    preferences: &[u16],
-    rows: &[u64],
-    pool: &mut [u8],
-) -> usize
-    requires fact_1 { let lists = parts mins.now maxs.now optional.now levels.now preferences.now rows.now in
-        file_counts_in_range counts ≡ true }
-    requires fact_2 { let lists = parts mins.now maxs.now optional.now levels.now preferences.now rows.now in
-        file_lengths_fit counts lists ≡ true }
-    requires fact_3 { let lists = parts mins.now maxs.now optional.now levels.now preferences.now rows.now in
-        day_rows_judged (day counts lists) ≡ good }
-    requires fact_4 { let lists = parts mins.now maxs.now optional.now levels.now preferences.now rows.now in
-        length pool.old ≡ longest_file }
-    ensures { let lists = parts mins.now maxs.now optional.now
-        levels.now preferences.now rows.now in
-        let file = bytes_of (day counts lists) in
+fn put_day(day: &FileDay, pool: &mut [u8]) -> usize
+    requires ranges { file_counts_in_range day.now.counts ≡ true }
+    requires lengths { let day = file_day_lent day.now in file_lengths_fit day.counts day.lists ≡ true }
+    requires rows { day_rows_judged (file_day_lent day.now) ≡ good }
+    requires room { length pool.old ≡ longest_file }
+    ensures { let file = bytes_of (file_day_lent day.now) in
         outcome (done result) pool.new ≡ outcome (done (length file)) (pad longest_file file) }
 {
     pool.fill(0);
-    put_head(pool, counts);
-    let levels_at = put_choices(pool, counts.choices, mins, maxs, optional);
-    let preferences_at = put_words(pool, levels_at, levels);
-    let rows_at = put_words(pool, preferences_at, preferences);
-    put_rows(pool, rows_at, rows)
+    put_head(pool, day.counts);
+    let levels_at = put_choices(pool, day);
+    let preferences_at = put_words(pool, levels_at, day.levels);
+    let rows_at = put_words(pool, preferences_at, day.preferences);
+    put_rows(pool, rows_at, day.rows)
 }
 
-// Writes a day's file into the lent pool, or refuses and leaves the pool untouched.
-pub fn write_day(
-    counts: FileCounts,
-    mins: &[u16],
-    maxs: &[u16],
-    optional: &[u8],
-    levels: &[u16],
-    preferences: &[u16],
-    rows: &[u64],
-    pool: &mut [u8],
-) -> Written
-    ensures { let lists = parts mins.now maxs.now optional.now
-        levels.now preferences.now rows.now in
-        outcome (written_tells result) pool.new ≡ write_of (day counts lists) pool.old }
+// Writes a day's file into the lent pool, or refuses and leaves the pool untouched; the answer is how many bytes
+// of the pool the file takes.
+pub fn write_day(day: &FileDay, pool: &mut [u8]) -> Result<usize, Refusal>
+    ensures { outcome (tells result) pool.new ≡ write_of (file_day_lent day.now) pool.old }
 {
-    let judged = judge_day(
-        counts,
-        mins,
-        maxs,
-        optional,
-        levels,
-        preferences,
-        rows,
-        pool.len(),
-    );
-    if let Checked::Refused(why) = judged {
-        return Written::Refused(why);
-    }
-    Written::Bytes(put_day(
-        counts,
-        mins,
-        maxs,
-        optional,
-        levels,
-        preferences,
-        rows,
-        pool,
-    ))
+    judge_day(day, pool.len())?;
+    Ok(put_day(day, pool))
 }

@@ -8,15 +8,17 @@ use native.Mathlib.Nat.{zero-add, sub-zero}
 use native.Mathlib.Omega.{arith}
 use borrow.Author.Tests.{leb-true}
 use lib.Dec.{leb}
-use lib.ListN.{length, take, get_or, replicate, length-replicate}
+use lib.ListN.{length, take, replicate, length-replicate}
 use lib.Seq.{sets}
-use Rattle.day_rows.specs.Told.{done, refused, good, outcome}
-use Rattle.day_rows.specs.declared.check.Counts.{Counts}
-use Rattle.plan_check.specs.Day.{Day, day_of}
+use Rattle.std.specs.Prelude.{Result, Ok, Err, IsErrAnd}
+use Rattle.day_rows.specs.Told.{done, refused, good, refusal_tells, outcome}
+use Rattle.day_rows.specs.declared.refusal.Refusal.{Refusal}
+use Rattle.plan_check.specs.Day.{Day}
 use Rattle.list_nodes.specs.Placements.{plans, page, total, nodes}
-use Rattle.list_all.specs.Outcome.{plans_told, turns_told, listed_of, list_of}
+use Rattle.list_all.specs.declared.list_plans.Listed.{Listed}
+use Rattle.list_all.specs.Outcome.{plans_told, turns_told, listed_tells, listed_of, list_of}
 use Rattle.list_nodes.specs.Judge.{judge_of}
-use Rattle.list_nodes.specs.steps.Walk.{numbers_asked, counts_of, plans_from}
+use Rattle.list_nodes.specs.steps.Walk.{plans_from}
 use Rattle.list_nodes.specs.steps.Runs.{Walks, Lists, Listing, Judged}
 use Rattle.list_nodes.proofs.PageLaws.{put-page, page-length}
 use Rattle.list_nodes.proofs.Members.{sized-plans}
@@ -91,22 +93,12 @@ module _ (day : Day) (room : ℕ) (buffer : List ℕ) (j : Judged day room buffe
         let l : written ≡ length (page day first room) = e ∙ page-told day first room a in
         rw (w.0, a, b, w.1, l)
 
--- ---- the second run with its numbers in one array
-
-module _ (counts : Counts) (mins maxs optional rows : List ℕ) (first room : ℕ) (buffer : List ℕ) (j : Judged (day_of counts mins maxs optional rows) room buffer)
-    {asked : List ℕ} (a : asked ≡ numbers_asked counts first room) (plan sums : List ℕ) (p : length plan ≡ counts.choices) (e : sums ≡ replicate 24 0) where
-  pub asked_requires : total (day_of counts mins maxs optional rows) < 2 ^ 64
-      → Lists (day_of (counts_of asked) mins maxs optional rows) (get_or asked 5 0) 0 plan sums (plans_from (day_of (counts_of asked) mins maxs optional rows) (length plan - 0) (take 0 plan) sums) 0 buffer
-  unfolding numbers_asked
-  asked_requires h = rw a (list_requires (day_of counts mins maxs optional rows) room buffer j plan sums p e h)
-
-  pub asked-answers : {total' : ℕ} {plan' sums' buffer' : List ℕ}
-      → Listing (get_or asked 4 0) (get_or asked 5 0) 0 (plans_from (day_of (counts_of asked) mins maxs optional rows) (length plan - 0) (take 0 plan) sums) plan plan' sums sums' 0 total' buffer buffer'
-      → (total' ≡ total (day_of counts mins maxs optional rows)) × (buffer' ≡ sets buffer 0 (flatten (page (day_of counts mins maxs optional rows) first room)))
-  unfolding numbers_asked
-  asked-answers g = list-answers (day_of counts mins maxs optional rows) room buffer j plan sums p e (rw a at g)
-
 -- ---- the refusals
+
+-- why a day is refused, passed on by `?`
+pub passed_on : (answer : Result Listed Refusal) (why : Refusal) → IsErrAnd answer (λ given. given ≡ why) → listed_tells answer ≡ refusal_tells why
+passed_on (Ok list) why h = absurd h
+passed_on (Err given) why h = ap (λ (why : Refusal). refusal_tells why) h
 
 module _ (day : Day) (first room budget : ℕ) (buffer : List ℕ) where
   pub refused-told : {number : ℕ} {carried : List ℕ} → refused number carried ≡ judge_of day room (length buffer) → outcome (refused number carried) buffer ≡ list_of day first room budget buffer

@@ -9,9 +9,11 @@ use borrow.Author.Tests.{le-leb, lt-leb, leb-true, leb-false}
 use lib.Dec.{leb}
 use lib.ListN.{length}
 use lib.Seq.{sets}
+use Rattle.std.specs.Prelude.{Result, Ok, Err}
 use Rattle.base_lists.specs.Keep.{keep}
 use Rattle.base_lists.proofs.SumBelow.{sum_first}
 use Rattle.day_rows.specs.Told.{Told, done, refused, good, Outcome, outcome}
+use Rattle.day_rows.specs.declared.refusal.Refusal.{Refusal}
 use Rattle.day_rows.proofs.ToldLaws.{refusal_of, refusal-back, done-is}
 use Rattle.day_rows.proofs.ToldLaws as tellings
 use Rattle.plan_check.specs.Day.{Day}
@@ -24,19 +26,19 @@ use Rattle.list_all.proofs.CallLaws.{good-told}
 use Rattle.list_nodes.proofs.StartLaws.{empty-node}
 
 -- the answer, read back from what it tells
-abbrev pub listed_back : Told PageTold → Listed
-listed_back (done (plans_told written total nodes)) = listed.Plans written total nodes
-listed_back (done turns_told) = listed.Turns
-listed_back (refused number carried) = listed.Refused (refusal_of number carried)
+abbrev pub listed_back : Told PageTold → Result Listed Refusal
+listed_back (done (plans_told written total nodes)) = Ok (listed.Plans written total nodes)
+listed_back (done turns_told) = Ok listed.Turns
+listed_back (refused number carried) = Err (refusal_of number carried)
 
-pub listed_back_lem : (answer : Listed) → listed_back (listed_tells answer) ≡ answer
-listed_back_lem (listed.Plans written total nodes) = refl
-listed_back_lem listed.Turns = refl
-listed_back_lem (listed.Refused why) = ap listed.Refused (refusal-back why)
+pub listed_back_lem : (answer : Result Listed Refusal) → listed_back (listed_tells answer) ≡ answer
+listed_back_lem (Ok (listed.Plans written total nodes)) = refl
+listed_back_lem (Ok listed.Turns) = refl
+listed_back_lem (Err why) = ap Err (refusal-back why)
 
 module _ (day : Day) (first room budget : ℕ) (buffer : List ℕ) where
   -- no two outcomes fit the promise
-  pub one-outcome : {answer other : Listed} {written rest : List ℕ} → outcome (listed_tells answer) written ≡ list_of day first room budget buffer
+  pub one-outcome : {answer other : Result Listed Refusal} {written rest : List ℕ} → outcome (listed_tells answer) written ≡ list_of day first room budget buffer
       → outcome (listed_tells other) rest ≡ list_of day first room budget buffer → (answer ≡ other) × (written ≡ rest)
   one-outcome = tellings.one-outcome listed_tells listed_back listed_back_lem
 

@@ -4,7 +4,7 @@ ghost use Rattle.std.specs.Prelude.{◌≡◌, ◌<◌, ◌≤◌, length};
 ghost use Rattle.list_tables.specs.steps.Tables.{tables_size};
 
 use super::absent::weigh_absent;
-use super::kinds::{count_kinds, first_of, number_kinds, size_of};
+use super::kinds::{DayKinds, count_kinds, first_of, number_kinds, size_of};
 use super::lightest::{fill_rows, take_lightest, weigh_choices};
 use super::simplex::{bring_column, clear_column, start, weigh_kinds};
 use day_rows::check::Counts;
@@ -27,77 +27,54 @@ fn weigh_heads(choosers: usize, maxs: &[u16], tables: &mut [u16; TABLES])
 fn bring_in(
     table: usize,
     first: usize,
-    choosers: usize,
-    known: usize,
-    maxs: &[u16],
-    kinds: &[usize; 64],
+    day: &DayKinds,
     tables: &mut [u16; TABLES],
     program: &mut [f64; 4416],
 ) -> bool
-    requires { ((table < 4) × (choosers ≤ 200)) × ((first ≤ length maxs.now) × (length maxs.now ≤ 64)) }
+    requires { (table < 4) × (first ≤ length day.now.maxs.now) }
 {
-    weigh_kinds(known, program);
-    weigh_choices(table, maxs.len(), kinds, program, tables);
-    fill_rows(table, first, choosers, maxs, tables);
-    if ENOUGH <= tables[(table * 65 + first) * 201 + choosers] {
+    weigh_kinds(day.known, program);
+    weigh_choices(table, day.maxs.len(), day.kinds, program, tables);
+    fill_rows(table, first, day, tables);
+    if ENOUGH <= tables[(table * 65 + first) * 201 + day.choosers] {
         return false;
     }
-    clear_column(known, program);
-    take_lightest(table, first, choosers, maxs, kinds, tables, program);
-    bring_column(known, program)
+    clear_column(day.known, program);
+    take_lightest(table, first, day, tables, program);
+    bring_column(day.known, program)
 }
 
 // Brings sets into the basis until none is too light, 60 sets at most.
 fn bring_all(
     table: usize,
     first: usize,
-    choosers: usize,
-    known: usize,
-    maxs: &[u16],
-    kinds: &[usize; 64],
+    day: &DayKinds,
     tables: &mut [u16; TABLES],
     program: &mut [f64; 4416],
 )
-    requires { ((table < 4) × (choosers ≤ 200)) × ((first ≤ length maxs.now) × (length maxs.now ≤ 64)) }
+    requires { (table < 4) × (first ≤ length day.now.maxs.now) }
 {
     for _ in 0..60 {
-        if !bring_in(table, first, choosers, known, maxs, kinds, tables, program) {
+        if !bring_in(table, first, day, tables, program) {
             return;
         }
     }
 }
 
 // Fits a table's weights to the day's end: the choices that can fill the last so many slots and no more.
-fn fit_table(
-    table: usize,
-    slots: usize,
-    choosers: usize,
-    known: usize,
-    maxs: &[u16],
-    sizes: &[usize; 64],
-    kinds: &[usize; 64],
-    tables: &mut [u16; TABLES],
-)
-    requires { ((table < 4) × (slots ≤ 24)) × ((choosers ≤ 200) × (length maxs.now ≤ 64)) }
+fn fit_table(table: usize, slots: usize, day: &DayKinds, tables: &mut [u16; TABLES])
+    requires { (table < 4) × (slots ≤ 24) }
 {
-    let first = first_of(slots, choosers, maxs);
+    let choices = day.maxs.len();
+    let first = first_of(slots, day.choosers, day.maxs);
     let mut many = [0u16; 64];
-    count_kinds(first, maxs.len(), kinds, &mut many);
+    count_kinds(first, choices, day.kinds, &mut many);
     let mut program = [0.0f64; 4416];
-    start(known, &many, &mut program);
-    bring_all(
-        table,
-        first,
-        choosers,
-        known,
-        maxs,
-        kinds,
-        tables,
-        &mut program,
-    );
-    weigh_kinds(known, &mut program);
-    weigh_absent(known, sizes, &many, &mut program);
-    weigh_choices(table, maxs.len(), kinds, &program, tables);
+    start(day.known, &many, &mut program);
+    bring_all(table, first, day, tables, &mut program);
+    weigh_kinds(day.known, &mut program);
+    weigh_absent(day.known, day.sizes, &many, &mut program);
+    weigh_choices(table, choices, day.kinds, &program, tables);
 }
 
 // Chooses the weights of a day with choosers: heads in table 1, then in tables 2 and 3 those by which the
@@ -109,14 +86,21 @@ fn fit_day(slots: usize, choosers: usize, maxs: &[u16], tables: &mut [u16; TABLE
     let mut sizes = [0usize; 64];
     let mut kinds = [0usize; 64];
     let known = number_kinds(choosers, maxs, &mut sizes, &mut kinds);
+    let day = DayKinds {
+        choosers,
+        maxs,
+        known,
+        sizes: &sizes,
+        kinds: &kinds,
+    };
     if slots < 2 {
         return;
     }
-    fit_table(2, slots - 1, choosers, known, maxs, &sizes, &kinds, tables);
+    fit_table(2, slots - 1, &day, tables);
     if slots < 3 {
         return;
     }
-    fit_table(3, slots - 2, choosers, known, maxs, &sizes, &kinds, tables);
+    fit_table(3, slots - 2, &day, tables);
 }
 
 // Chooses each choice's weight in tables 1 to 3: heads in table 1, in 2 and 3 weights by which the choices at

@@ -1,6 +1,18 @@
 // Choices of one size are of one kind: the linear program has a row for each kind, not for each choice.
 ghost use Rattle.std.specs.Prelude.{◌+◌, ◌≤◌, length};
 
+// The day that weights are fitted to: its choosers and each choice's maximum; how many kinds the choices make,
+// each kind's size and each choice's kind.
+#[derive(Clone, Copy)]
+pub(crate) struct DayKinds<'a> {
+    pub choosers: usize,
+    pub maxs: &'a [u16],
+    pub known: usize,
+    pub sizes: &'a [usize; 64],
+    pub kinds: &'a [usize; 64],
+    ghost in_range: { (choosers ≤ 200) × (length maxs.now ≤ 64) },
+}
+
 // How many heads of a choice count in a slot: no more than there are choosers.
 pub(crate) fn size_of(most: u16, choosers: usize) -> usize
     ensures { result ≤ 65535 }

@@ -2,6 +2,7 @@
 ghost use Rattle.std.specs.Prelude.{◌+◌, ◌<◌, ◌≤◌, length};
 ghost use Rattle.list_tables.specs.steps.Tables.{weights_start};
 
+use super::kinds::DayKinds;
 use super::simplex::{COLUMN, weight_of};
 use list_tables::rows::{UNREACHED, smaller_entry};
 use list_tables::shape::{TABLES, WEIGHTS_START};
@@ -48,21 +49,16 @@ fn fill_row(at: usize, choosers: usize, weight: usize, most: usize, tables: &mut
 }
 
 // Fills the rows of a table from its last up to the first choice's: no row before that is asked for.
-pub(crate) fn fill_rows(
-    table: usize,
-    first: usize,
-    choosers: usize,
-    maxs: &[u16],
-    tables: &mut [u16; TABLES],
-)
-    requires { ((table < 4) × (choosers ≤ 200)) × (length maxs.now ≤ 64) }
+pub(crate) fn fill_rows(table: usize, first: usize, day: &DayKinds, tables: &mut [u16; TABLES])
+    requires { table < 4 }
 {
-    fill_last((table * 65 + maxs.len()) * 201, choosers, tables);
+    let maxs = day.maxs;
+    fill_last((table * 65 + maxs.len()) * 201, day.choosers, tables);
     for from in (first..maxs.len()).rev() {
         let weight = usize::from(tables[WEIGHTS_START + table * 64 + from]);
         fill_row(
             (table * 65 + from) * 201,
-            choosers,
+            day.choosers,
             weight,
             usize::from(maxs[from]),
             tables,
@@ -97,20 +93,19 @@ fn lack_after(
 pub(crate) fn take_lightest(
     table: usize,
     first: usize,
-    choosers: usize,
-    maxs: &[u16],
-    kinds: &[usize; 64],
+    day: &DayKinds,
     tables: &[u16; TABLES],
     program: &mut [f64; 4416],
 )
-    requires { ((table < 4) × (choosers ≤ 200)) × ((first ≤ length maxs.now) × (length maxs.now ≤ 64)) }
+    requires { (table < 4) × (first ≤ length day.now.maxs.now) }
 {
-    let mut lack = choosers;
+    let maxs = day.maxs;
+    let mut lack = day.choosers;
     for choice in first..maxs.len() {
         lack = lack_after(
             (table * 65 + choice) * 201,
             lack,
-            kinds[choice],
+            day.kinds[choice],
             usize::from(maxs[choice]),
             tables,
             program,

@@ -13,8 +13,9 @@ use Rattle.base_lists.specs.Below.{all_below}
 use Rattle.base_lists.proofs.All.{all_of-each, each-all_of}
 use Rattle.base_lists.proofs.Below.{and_left, and_right}
 use Rattle.day_rows.specs.Check.{counts_in_range, most_rows}
-use Rattle.day_rows.specs.Told.{Told, done, refused, unless}
+use Rattle.day_rows.specs.Told.{done, refused, unless}
 use Rattle.day_rows.specs.declared.check.Takes.TheVariants.{Scheduling, Assignment}
+use Rattle.day_rows.proofs.ToldLaws.{unless-done}
 use Rattle.day_rows.proofs.CountLaws.{Within, within}
 use Rattle.plan_check.specs.Check.{cell_fits}
 use Rattle.plan_check.specs.Rows.{keeps_rows}
@@ -32,15 +33,6 @@ use Rattle.roster_check.specs.Passes.{roster, passes, highest}
 use Rattle.roster_check.specs.Check.{scored, roster_counts_in_range, roster_lengths_fit, lists_judged, rows_judged, roster_check_of}
 use Rattle.roster_check.specs.steps.Shapes.{Judged}
 use Rattle.roster_check.specs.declared.roster_check.RosterCounts.{RosterCounts}
-
--- a refusal is not done
-never : {A : Type 0} {value : A} {number : ℕ} {carried : List ℕ} → refused number carried ≡ done value → ⊥
-never e = let z : ◌≡◌ {A = ℕ} 0 1 = cc in omega arith
-
--- what isn't refused has passed the test and the rest
-passed : {A : Type 0} {value : A} (test : Bool) (number : ℕ) (rest : Told A) → unless test number rest ≡ done value → (test ≡ true) × (rest ≡ done value)
-passed true number rest e = (refl, e)
-passed false number rest e = absurd (never e)
 
 -- what counts in range say of each count
 pub record Ranged (counts : RosterCounts) : Type 0 where
@@ -123,10 +115,10 @@ module _ (sheet : Sheet) where
   listed e =
       let rest-4 = unless (all_at_most (last_level sheet.levels) sheet.preferences) 4 (done tt) in
       let rest-3 = unless (levels_rise sheet.levels) 3 rest-4 in
-      let a = passed (roster_counts_in_range sheet.counts) 1 (unless (roster_lengths_fit sheet) 2 rest-3) (sym e) in
-      let b = passed (roster_lengths_fit sheet) 2 rest-3 a.1 in
-      let c = passed (levels_rise sheet.levels) 3 rest-4 b.1 in
-      let d = passed (all_at_most (last_level sheet.levels) sheet.preferences) 4 (done tt) c.1 in
+      let a = unless-done (roster_counts_in_range sheet.counts) 1 (unless (roster_lengths_fit sheet) 2 rest-3) (sym e) in
+      let b = unless-done (roster_lengths_fit sheet) 2 rest-3 a.1 in
+      let c = unless-done (levels_rise sheet.levels) 3 rest-4 b.1 in
+      let d = unless-done (all_at_most (last_level sheet.levels) sheet.preferences) 4 (done tt) c.1 in
       record { counts = ranged sheet.counts a.0; lengths = fitting sheet b.0; rising = c.0; most = d.0 }
 
   pub seated : Listed sheet → Seated sheet.counts.slots sheet.counts.choosers sheet.roster
@@ -145,8 +137,8 @@ pub places-fit : (slots : ℕ) (plan roster : List ℕ) → done tt ≡ cells_ju
     → (all_of (cell_fits slots) plan ≡ true) × (all_of (names_scheduled plan) roster ≡ true)
 unfolding cells_judged
 places-fit slots plan roster e =
-    let a = passed (all_of (cell_fits slots) plan) 9 (unless (all_of (names_scheduled plan) roster) 10 (done tt)) (sym e) in
-    let b = passed (all_of (names_scheduled plan) roster) 10 (done tt) a.1 in
+    let a = unless-done (all_of (cell_fits slots) plan) 9 (unless (all_of (names_scheduled plan) roster) 10 (done tt)) (sym e) in
+    let b = unless-done (all_of (names_scheduled plan) roster) 10 (done tt) a.1 in
     (a.0, b.0)
 
 module _ (sheet : Sheet) where

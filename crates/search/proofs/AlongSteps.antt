@@ -1,5 +1,5 @@
 -- The loop over the levels: what is ahead is the whole call.
-use mathlib.Core.Path.{◌≡◌, refl, sym, ◌∙◌, ap}
+use mathlib.Core.Path.{◌≡◌, refl, sym, ◌∙◌, ap, ap₂}
 use mathlib.Core.Bool.{Bool, true, false, cond}
 use mathlib.Core.List.{List, [], ◌∷◌}
 use Prim.Native.Nat.{ℕ, suc, ◌+◌, ◌-◌, ◌≤◌, ◌<◌, min}
@@ -11,7 +11,7 @@ use lib.ListN.{length, get_or, drop, drop_of_length-le}
 use lib.Seq.{drop-cons}
 use Rattle.base_lists.specs.First.{first_failing}
 use Rattle.base_lists.proofs.First.{first_le}
-use Rattle.day_rows.specs.Told.{outcome}
+use Rattle.day_rows.specs.Told.{done, outcome}
 use Rattle.search_rules.specs.Walk.{Out, hit, dry, cut, turns_left}
 use Rattle.search_rules.proofs.Sound.{turns-left}
 use Rattle.search_rules.specs.Pass.{Lent, plan_of, sight_at, candidates_at, draw_after, pass_of}
@@ -21,8 +21,9 @@ use Rattle.search_meaning.specs.declared.answer.Searched.{Searched}
 use Rattle.search_rules.specs.Passes.{Ending, passes_from}
 use Rattle.search_rules.proofs.PassesLaws.{passes-last-hit, passes-last-dry, passes-last-cut, passes-hit, passes-dry, passes-cut-out, passes-cut-on}
 use Rattle.search_meaning.specs.Search.{levels_above}
-use Rattle.search_meaning.specs.Calls.{searched_tells}
-use Rattle.search_levels.specs.steps.Step.{Follows, answers, goes_on, step_tells, step_of}
+use Rattle.search_meaning.specs.Calls.{settled}
+use Rattle.search_levels.specs.steps.Step.{Follows, answers, goes_on, step_tells, begun_of, step_of}
+use Rattle.search_levels.specs.declared.step.Begun.{Begun}
 use Rattle.search_levels.specs.declared.step.Step.{Step}
 use Rattle.search_levels.specs.declared.step.Step.TheVariants as steps
 use Rattle.search.specs.steps.Ground.{Ground, lent_in, pass_in, ending_in, answered, call_in}
@@ -82,7 +83,7 @@ module _ (ground : Ground) (budget total start : ℕ) (before : List ℕ) where
   module _ (limit above left draw pass : ℕ) (now : List ℕ) (f : Along limit above left draw pass now) where
     -- what follows the pass: the call's answer, or a higher level and the passes from it on
     abbrev pub After : Follows → List ℕ → Type 0
-    After (answers told) after = outcome told after ≡ call_in ground budget total start before
+    After (answers told) after = outcome (done told) after ≡ call_in ground budget total start before
     After (goes_on left' draw') after = (above < length ground.levels) × Along (get_or ground.levels above 0) (above + 1) left' draw' (pass + 1) after
 
     next : above < length ground.levels → (left' draw' : ℕ) → left' ≤ total
@@ -106,7 +107,7 @@ module _ (ground : Ground) (budget total start : ℕ) (before : List ℕ) where
       ahead_none = rw (drop_of_length-le ground.levels {i = above} h) at f.ahead
 
       last-pass : (o : Out) → pass_in ground limit pass left draw ≡ o → turns_left o ≤ left
-          → After (step_of true left left total (pass + 1) limit (ended_by o)) (cells_by (lent_in ground limit pass) now o)
+          → After (step_of (begun_of true left left total (pass + 1) limit) (ended_by o)) (cells_by (lent_in ground limit pass) now o)
       unfolding answered turns_left
       last-pass (hit spared places draw') q t =
           let l : left - (left - spared) ≡ spared = omega arith in
@@ -129,7 +130,7 @@ module _ (ground : Ground) (budget total start : ℕ) (before : List ℕ) where
       ahead_cons = rw (drop-cons ground.levels above 0 h) at f.ahead
 
       pass_below : (o : Out) → pass_in ground limit pass (min left budget) draw ≡ o → turns_left o ≤ min left budget
-          → After (step_of false left (min left budget) total (pass + 1) limit (ended_by o)) (cells_by (lent_in ground limit pass) now o)
+          → After (step_of (begun_of false left (min left budget) total (pass + 1) limit) (ended_by o)) (cells_by (lent_in ground limit pass) now o)
       unfolding answered turns_left
       pass_below (hit spared places draw') q t =
           let l : left - (min left budget - spared) ≡ spared + (left - budget) = omega arith in
@@ -139,7 +140,7 @@ module _ (ground : Ground) (budget total start : ℕ) (before : List ℕ) where
           rw l (next h (spared + (left - budget)) draw' (omega (arith, f.few-turns)) (sym (passes-dry (pass_in ground) budget limit pass left draw level higher q) ∙ ahead_cons))
       pass_below (cut draw') q t = short (leb left (min left budget)) refl
         where
-          short : (b : Bool) → leb left (min left budget) ≡ b → After (step_of false left (min left budget) total (pass + 1) limit (wanting draw')) now
+          short : (b : Bool) → leb left (min left budget) ≡ b → After (step_of (begun_of false left (min left budget) total (pass + 1) limit) (wanting draw')) now
           short true s =
               let few : left ≤ min left budget = leb-true _ _ s in
               rw (s, add-one pass, f.same-plan) (ending_answered _ (sym (passes-cut-out (pass_in ground) budget limit pass left draw level higher q (omega arith)) ∙ ahead_cons))
@@ -149,28 +150,37 @@ module _ (ground : Ground) (budget total start : ℕ) (before : List ℕ) where
               rw (s, l) (next h (left - budget) draw' (omega (arith, f.few-turns)) (sym (passes-cut-on (pass_in ground) budget limit pass left draw level higher q (omega arith)) ∙ ahead_cons))
 
     -- what follows the pass, by whether a level is above
-    module _ {turns : ℕ} (t : turns ≡ cond (leb (length ground.levels) above) left (min left budget)) (passed : Passed) {after : List ℕ}
-        (p : leaves (passed_tells passed) after ≡ left_by (lent_in ground limit pass) now (pass_in ground limit pass turns draw)) (step : Step)
-        (s : step_tells step ≡ step_of (leb (length ground.levels) above) left turns total (pass + 1) limit (passed_tells passed)) where
-      ended_is : passed_tells passed ≡ ended_by (pass_in ground limit pass turns draw)
-      ended_is = ap (λ (x : Leaves). x.ended) (p ∙ left_by_lem (lent_in ground limit pass) now (pass_in ground limit pass turns draw))
+    abbrev turns : ℕ
+    turns = cond (leb (length ground.levels) above) left (min left budget)
 
-      after_is : after ≡ cells_by (lent_in ground limit pass) now (pass_in ground limit pass turns draw)
-      after_is = ap (λ (x : Leaves). x.plan) (p ∙ left_by_lem (lent_in ground limit pass) now (pass_in ground limit pass turns draw))
+    module _ {begun : Begun} (b : begun ≡ begun_of (leb (length ground.levels) above) left turns total (pass + 1) limit) (passed : Passed) {after : List ℕ}
+        (p : leaves (passed_tells passed) after ≡ left_by (lent_in ground limit pass) now (pass_in ground limit pass begun.turns draw)) (step : Step)
+        (s : step_tells step ≡ step_of begun (passed_tells passed)) where
+      abbrev out : Out
+      out = pass_in ground limit pass turns draw
 
-      follows : (b : Bool) → leb (length ground.levels) above ≡ b → turns ≡ cond b left (min left budget)
-          → After (step_of b left turns total (pass + 1) limit (ended_by (pass_in ground limit pass turns draw))) (cells_by (lent_in ground limit pass) now (pass_in ground limit pass turns draw))
+      left-is : leaves (passed_tells passed) after ≡ leaves (ended_by out) (cells_by (lent_in ground limit pass) now out)
+      left-is = (rw b at p) ∙ left_by_lem (lent_in ground limit pass) now out
+
+      ended_is : passed_tells passed ≡ ended_by out
+      ended_is = ap (λ (x : Leaves). x.ended) left-is
+
+      after_is : after ≡ cells_by (lent_in ground limit pass) now out
+      after_is = ap (λ (x : Leaves). x.plan) left-is
+
+      follows : (b : Bool) → leb (length ground.levels) above ≡ b → {had : ℕ} → had ≡ cond b left (min left budget)
+          → After (step_of (begun_of b left had total (pass + 1) limit) (ended_by (pass_in ground limit pass had draw))) (cells_by (lent_in ground limit pass) now (pass_in ground limit pass had draw))
       follows true l u = rw u (last-pass (leb-true _ _ l) (pass_in ground limit pass left draw) refl (turns_in ground limit pass left draw))
       follows false l u = rw u (pass_below (leb-false _ _ l) (pass_in ground limit pass (min left budget) draw) refl (turns_in ground limit pass (min left budget) draw))
 
       along_step : {known : Step} → step ≡ known → After (step_tells known) after
       along_step {known} k =
-          let e : step_tells known ≡ step_of (leb (length ground.levels) above) left turns total (pass + 1) limit (ended_by (pass_in ground limit pass turns draw)) =
-          ap step_tells (sym k) ∙ s ∙ ap (step_of (leb (length ground.levels) above) left turns total (pass + 1) limit) ended_is in
-          rw (e, after_is) (follows (leb (length ground.levels) above) refl t)
+          let e : step_tells known ≡ step_of (begun_of (leb (length ground.levels) above) left turns total (pass + 1) limit) (ended_by out) =
+          ap step_tells (sym k) ∙ s ∙ ap₂ step_of b ended_is in
+          rw (e, after_is) (follows (leb (length ground.levels) above) refl refl)
 
       -- where the call answers, the answer is the whole call's
-      pub along_answer : {answer : Searched} → step ≡ steps.Answer answer → outcome (searched_tells answer) after ≡ call_in ground budget total start before
+      pub along_answer : {answer : Searched} → step ≡ steps.Answer answer → outcome (done (settled answer)) after ≡ call_in ground budget total start before
       along_answer k = along_step k
 
       -- where a pass goes on to the next level, the passes from there are the whole call's

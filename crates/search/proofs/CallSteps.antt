@@ -9,37 +9,30 @@ use lib.Dec.{eqb, leb}
 use lib.ListN.{length, replicate, length-append, length-map, length-replicate}
 use Rattle.base_lists.specs.Pool.{pad}
 use Rattle.base_lists.proofs.Below.{and_right}
-use Rattle.day_rows.specs.Check.{checked_tells}
-use Rattle.day_rows.specs.Told.{done, refused, Verdict, good, refuse, refusal_tells, unless, and_then, Outcome, outcome}
-use Rattle.day_rows.specs.declared.check.Checked.{Checked}
-use Rattle.day_rows.specs.declared.check.Checked.TheVariants as checked
-use Rattle.day_rows.specs.declared.check.Counts.{Counts}
-use Rattle.day_rows.specs.declared.refusal.Refusal.{Refusal}
+use Rattle.day_rows.specs.Told.{Told, done, refused, Verdict, good, refuse, unless, and_then, Outcome, outcome}
 use Rattle.day_rows.proofs.ToldLaws.{done-is, refused-not-done, refused_as}
-use Rattle.day_rows.proofs.Outcomes.{told-by}
 use Rattle.day_rows.specs.Levels.{levels_in_range, last_level}
 use Rattle.plan_check.specs.Day as plan
 use Rattle.plan_check.specs.Feasible.{shapes_fit}
 use Rattle.sets_analysis.specs.SetsDay as sets
 use Rattle.sets_analysis.specs.Kept.{CriticalSet, kept_sets, simplified}
 use Rattle.sets_analysis.specs.Bound.{bound_of}
-use Rattle.sets_analysis.specs.Calls.{Pools, pools, pools_full, filled, sets_in, figures, Figures, analyzed_tells, sets_kept, analyzed_of, analysis_of}
+use Rattle.sets_analysis.specs.Calls.{Pools, pools, pools_full, filled, sets_in, figures, sets_kept, analyzed_of, analysis_of}
 use Rattle.sets_analysis.specs.Calls as analysis
-use Rattle.sets_analysis.specs.declared.day.SetsCounts.{SetsCounts}
 use Rattle.sets_analysis.specs.declared.analysis.Analysis.{Analysis}
+use Rattle.sets_analysis.specs.declared.analysis.Figures.{Figures}
 use Rattle.sets_analysis.specs.declared.analysis.Analysis.TheVariants as mode
-use Rattle.sets_analysis.specs.declared.analysis.Analyzed.{Analyzed}
-use Rattle.sets_analysis.specs.declared.analysis.Analyzed.TheVariants as analyzed
 use Rattle.search_map.specs.Calls.{map_full}
 use Rattle.sets_analysis.proofs.PoolsBack.{sets-back}
 use Rattle.search_rules.specs.Passes.{Ending, found, none, out}
-use Rattle.search_meaning.specs.Given.{Given, row_counts, sets_counts, plan_day, sets_day}
+use Rattle.search_meaning.specs.Given.{Given, plan_day, sets_day}
 use Rattle.search_meaning.specs.Judged.{day_judged, lent_judged}
 use Rattle.search_meaning.proofs.JudgedLaws.{DayKeeps, day-keeps, lent-keeps}
 use Rattle.search_meaning.specs.Search.{sets_of, lowest_of, start_of, sets_at, rows_counted, order_of, lent_at, pass_at, ending_of}
 use Rattle.search_meaning.specs.Calls.{Settled, plan_left, sets_fit, search_judged, search_of}
 use Rattle.search_meaning.specs.declared.settings.Settings.{Settings}
-use Rattle.search.specs.steps.Ground.{Ground, ground_of, rows_in, lent_in, pass_in, ending_in, planned_in, answered, call_in, PassReady}
+use Rattle.search.specs.steps.Ground.{Ground, ground_of, rows_in, lent_in, pass_in, ending_in, planned_in, answered, call_in}
+use Rattle.search.specs.steps.LevelPass.{Basis, basis_of, ground_on, PassReady}
 
 -- ---- the analysis
 
@@ -114,16 +107,20 @@ module _ (given : Given) (settings : Settings) (before : List ℕ) where
   abbrev pub ground_at : Ground
   ground_at = ground_of settings.full (plan_day given) given.map given.whole given.orders given.levels (sets_of (sets_day given) settings.analysis) given.draws
 
+  -- and with the sets in their pools
+  abbrev pub basis_at : plan.Day → ℕ → List ℕ → List ℕ → Basis
+  basis_at day count masks levels = basis_of settings.full day given.map given.whole given.orders given.levels count (pools masks levels) given.draws
+
   -- a refusal leaves the plan
   refused-by : {number : ℕ} {carried : List ℕ} → search_judged given settings before ≡ refused number carried → outcome (refused number carried) before ≡ search_of given settings before
   unfolding search_of
   refused-by e = rw e
 
   -- the call's refusals of the day: 1, 2, 3, 4, 5
-  pub day-refused : {answer : Checked} {why : Refusal} → checked_tells answer ≡ day_judged given before → answer ≡ checked.Refused why → outcome (refusal_tells why) before ≡ search_of given settings before
+  pub day-refused : {number : ℕ} {carried : List ℕ} → refused number carried ≡ day_judged given before → outcome (refused number carried) before ≡ search_of given settings before
   unfolding search_judged
-  day-refused e k =
-      refused-by (ap (λ (v : Verdict). and_then v (unless (sets_fit (sets_day given) settings.analysis) 7 (lent_judged given))) (sym (told-by e k)))
+  day-refused e =
+      refused-by (ap (λ (v : Verdict). and_then v (unless (sets_fit (sets_day given) settings.analysis) 7 (lent_judged given))) (sym e))
 
   module _ (d : day_judged given before ≡ good) where
     day_facts : DayKeeps given before
@@ -151,30 +148,26 @@ module _ (given : Given) (settings : Settings) (before : List ℕ) where
       unfolding analysis_of
       analysis_is = rw analysis_good
 
-      module _ {counts : SetsCounts} (q : counts ≡ sets_counts given.counts) {answer : Analyzed} {after : Pools}
-          (e : outcome (analyzed_tells answer) after ≡ analysis_of (sets.day_of counts given.mins given.levels given.preferences) settings.analysis (pools masks levels)) where
-        analysis_known : {known : Analyzed} → answer ≡ known → outcome (analyzed_tells known) after ≡ analyzed_of (sets_day given) settings.analysis
-        analysis_known k =
-            ap (λ (a : Analyzed). outcome (analyzed_tells a) after) (sym k)
-            ∙ e
-            ∙ ap (λ (n : SetsCounts). analysis_of (sets.day_of n given.mins given.levels given.preferences) settings.analysis (pools masks levels)) q
-            ∙ analysis_is
+      module _ {day : sets.SetsDay} (q : day ≡ sets_day given) {told : Told Figures} {after : Pools} (e : outcome told after ≡ analysis_of day settings.analysis (pools masks levels)) where
+        analysis_known : outcome told after ≡ analyzed_of (sets_day given) settings.analysis
+        analysis_known =
+            e ∙ ap (λ (x : sets.SetsDay). analysis_of x settings.analysis (pools masks levels)) q ∙ analysis_is
 
         -- the call's refusal of too many sets: 7
-        pub sets-refused : {why : Refusal} → answer ≡ analyzed.Refused why → outcome (refusal_tells why) before ≡ search_of given settings before
+        pub sets-refused : {number : ℕ} {carried : List ℕ} → told ≡ refused number carried → outcome (refused number carried) before ≡ search_of given settings before
         unfolding search_judged
         sets-refused k =
-            let o = analyzed_over (sets_day given) settings.analysis (analysis_known k) in
+            let o = analyzed_over (sets_day given) settings.analysis (rw k at analysis_known) in
             refused-by (rw (d, o.0) (sym o.1))
 
-        pub sets-found : {count bound : ℕ} → answer ≡ analyzed.Sets count bound → SetsFound (sets_day given) settings.analysis count bound after
-        sets-found k = analyzed_found (sets_day given) settings.analysis (analysis_known k)
+        pub sets-found : {count bound : ℕ} → told ≡ done (figures count bound) → SetsFound (sets_day given) settings.analysis count bound after
+        sets-found k = analyzed_found (sets_day given) settings.analysis (rw k at analysis_known)
 
     module _ {count bound : ℕ} {masks levels : List ℕ} (f : SetsFound (sets_day given) settings.analysis count bound (pools masks levels)) where
       -- the call's refusals of what is lent beside the day: 8, 13, 14
-      pub lent-refused : {answer : Checked} {why : Refusal} → checked_tells answer ≡ lent_judged given → answer ≡ checked.Refused why → outcome (refusal_tells why) before ≡ search_of given settings before
+      pub lent-refused : {number : ℕ} {carried : List ℕ} → refused number carried ≡ lent_judged given → outcome (refused number carried) before ≡ search_of given settings before
       unfolding search_judged
-      lent-refused e k = refused-by (rw (d, f.fit) (sym (told-by e k)))
+      lent-refused e = refused-by (rw (d, f.fit) (sym e))
 
       -- the pools hold the sets
       sets-in : sets_in count masks levels ≡ sets_of (sets_day given) settings.analysis
@@ -183,10 +176,9 @@ module _ (given : Given) (settings : Settings) (before : List ℕ) where
 
       module _ (l : lent_judged given ≡ good) where
         -- what the passes ask for
-        pub passes-ready : {counts : Counts} → counts ≡ row_counts given.counts → 1024 ≡ length masks → 1024 ≡ length levels
-            → PassReady (plan.day_of counts given.mins given.maxs given.optional given.rows) given.map.numbers given.whole given.orders given.levels count masks levels before
+        pub passes-ready : {day : plan.Day} → day ≡ plan_day given → 1024 ≡ length masks → 1024 ≡ length levels → PassReady (basis_at day count masks levels) before
         unfolding shapes_fit levels_in_range
-        passes-ready {counts} c m n =
+        passes-ready {day} c m n =
             let k = day_facts in
             let t = lent-keeps given l in
             rw c
@@ -222,14 +214,13 @@ module _ (given : Given) (settings : Settings) (before : List ℕ) where
         start_is s = rw (sym f.lowest) s
 
         -- the passes answer
-        pub passes-answer : {counts : Counts} {start : ℕ} {tells : Outcome Settled (List ℕ)} → counts ≡ row_counts given.counts → start ≡ cond settings.at_last_level (last_level given.levels) bound
-            → tells
-            ≡ call_in (ground_of settings.full (plan.day_of counts given.mins given.maxs given.optional given.rows) given.map given.whole given.orders given.levels (sets_in count masks levels) given.draws) settings.pass_budget settings.total_budget start before
+        pub passes-answer : {day : plan.Day} {start : ℕ} {tells : Outcome Settled (List ℕ)} → day ≡ plan_day given → start ≡ cond settings.at_last_level (last_level given.levels) bound
+            → tells ≡ call_in (ground_on (basis_at day count masks levels)) settings.pass_budget settings.total_budget start before
             → tells ≡ search_of given settings before
         unfolding call_in
-        passes-answer {counts} {start} c s e =
-            let same : ground_of settings.full (plan.day_of counts given.mins given.maxs given.optional given.rows) given.map given.whole given.orders given.levels (sets_in count masks levels) given.draws ≡ ground_at =
-            ap₂ (λ (k : Counts) (x : List CriticalSet). ground_of settings.full (plan.day_of k given.mins given.maxs given.optional given.rows) given.map given.whole given.orders given.levels x given.draws) c sets-in in
+        passes-answer {day} {start} c s e =
+            let same : ground_on (basis_at day count masks levels) ≡ ground_at =
+            ap₂ (λ (k : plan.Day) (x : List CriticalSet). ground_of settings.full k given.map given.whole given.orders given.levels x given.draws) c sets-in in
             e
             ∙ ap₂ (λ (g : Ground) (n : ℕ). answered g settings.total_budget before (ending_in g settings.pass_budget settings.total_budget n)) same (start_is s)
             ∙ ap (λ (x : Ending). answered ground_at settings.total_budget before x) (sym ending_is)

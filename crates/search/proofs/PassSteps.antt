@@ -11,14 +11,13 @@ use Rattle.base_lists.specs.Pool.{window}
 use Rattle.base_lists.proofs.Below.{and_left, and_right}
 use Rattle.base_lists.proofs.Flat.{list_ext}
 use Rattle.day_rows.specs.Levels.{levels_in_range}
-use Rattle.plan_check.specs.Day.{Day}
 use Rattle.plan_check.specs.Feasible.{lengths_fit, shapes_fit}
-use Rattle.sets_analysis.specs.Calls.{pools, pools_full, sets_in}
+use Rattle.sets_analysis.specs.Calls.{pools_full}
 use Rattle.search_map.specs.Map.{Map, has_entry, start_of, length_of, looked_up}
 use Rattle.search_order.proofs.OrderLaws.{pass_permutation}
 use Rattle.search_pass.specs.steps.Call.{Leaves, left_by, pass_fits, pass_leaves}
-use Rattle.search.specs.steps.LevelPass.{list_taken, sets_listed, rows_found, lent_by}
-use Rattle.search.specs.steps.Ground.{Ground, ground_of, rows_in, lent_in, pass_in, PassReady}
+use Rattle.search.specs.steps.LevelPass.{Basis, ground_on, PassReady, list_taken, sets_listed, rows_found, lent_by}
+use Rattle.search.specs.steps.Ground.{Ground, rows_in, lent_in, pass_in}
 
 -- ---- each choice's number of looked-up rows
 
@@ -40,42 +39,41 @@ rows-found entries whole n w =
 
 -- ---- a day that is judged
 
-module _ (day : Day) (numbers whole orders levels : List ℕ) (count : ℕ) (masks set_levels before : List ℕ) (ready : PassReady day numbers whole orders levels count masks set_levels before) where
-  few-choices : day.counts.choices ≤ 64
+module _ (basis : Basis) (before : List ℕ) (ready : PassReady basis before) where
+  few-choices : basis.day.counts.choices ≤ 64
   unfolding shapes_fit
   few-choices =
-      let c = leb day.counts.choices 64 in
-      let s = leb day.counts.slots 24 in
-      let l = lengths_fit day.counts.choices day.mins day.maxs day.optional before in
+      let c = leb basis.day.counts.choices 64 in
+      let s = leb basis.day.counts.slots 24 in
+      let l = lengths_fit basis.day.counts.choices basis.day.mins basis.day.maxs basis.day.optional before in
       leb-true _ _ (and_left c s (and_left (c && s) l ready.shapes))
 
-  pub most-levels : length levels ≤ 64
+  pub most-levels : length basis.levels ≤ 64
   unfolding levels_in_range
-  most-levels = leb-true _ _ (and_right (leb 1 (length levels)) (leb (length levels) 64) ready.few-levels)
+  most-levels = leb-true _ _ (and_right (leb 1 (length basis.levels)) (leb (length basis.levels) 64) ready.few-levels)
 
   -- a judged day's list of a limit is taken
-  list-taken : list_taken levels count (pools masks set_levels) ≡ true
+  list-taken : list_taken basis.levels basis.count basis.pools ≡ true
   unfolding list_taken pools_full
   list-taken = rw (le-leb _ _ ready.few-sets, ready.few-levels, eq-eqb _ _ ready.masks-full, eq-eqb _ _ ready.levels-full, ready.levels-rise)
 
-module _ (full : Bool) (day : Day) (entries : Map) (whole orders levels : List ℕ) (count : ℕ) (masks set_levels draws before : List ℕ)
-    (ready : PassReady day entries.numbers whole orders levels count masks set_levels before) (limit pass : ℕ) where
-  abbrev ground : Ground
-  ground = ground_of full day entries whole orders levels (sets_in count masks set_levels) draws
+  module _ (limit pass : ℕ) where
+    abbrev ground : Ground
+    ground = ground_on basis
 
-  lent_is : lent_by full day entries whole orders levels count (pools masks set_levels) draws limit pass ≡ lent_in ground limit pass
-  unfolding lent_by lent_in sets_listed
-  lent_is =
-      let least : min day.counts.choices 64 ≡ day.counts.choices = omega (arith, few-choices day entries.numbers whole orders levels count masks set_levels before ready) in
-      rw (least, rows-found entries whole ready.few-numbers ready.short-whole, list-taken day entries.numbers whole orders levels count masks set_levels before ready)
+    lent_is : lent_by basis limit pass ≡ lent_in ground limit pass
+    unfolding lent_by lent_in sets_listed
+    lent_is =
+        let least : min basis.day.counts.choices 64 ≡ basis.day.counts.choices = omega (arith, few-choices) in
+        rw (least, rows-found basis.map basis.whole ready.few-numbers ready.short-whole, list-taken)
 
-  -- a day's shape, and an order that is a permutation: the pass is taken
-  pass_fits_lem : {now : List ℕ} → now ≡ before → pass_fits (lent_in ground limit pass) now ≡ true
-  unfolding pass_fits lent_in
-  pass_fits_lem e = rw (e, ready.shapes, pass_permutation day.counts.choices orders (λ choice. get_or (rows_in entries whole) choice 0) pass ready.orders-keep)
+    -- a day's shape, and an order that is a permutation: the pass is taken
+    pass_fits_lem : {now : List ℕ} → now ≡ before → pass_fits (lent_in ground limit pass) now ≡ true
+    unfolding pass_fits lent_in
+    pass_fits_lem e = rw (e, ready.shapes, pass_permutation basis.day.counts.choices basis.orders (λ choice. get_or (rows_in basis.map basis.whole) choice 0) pass ready.orders-keep)
 
-  pub pass-taken : (turns draw : ℕ) {now : List ℕ} {left : Leaves} → now ≡ before
-      → left ≡ pass_leaves (lent_by full day entries whole orders levels count (pools masks set_levels) draws limit pass) turns draw now
-      → left ≡ left_by (lent_in ground limit pass) now (pass_in ground limit pass turns draw)
-  unfolding pass_leaves pass_in
-  pass-taken turns draw {now} e l = l ∙ rw (lent_is, pass_fits_lem e)
+    pub pass-taken : (turns draw : ℕ) {now : List ℕ} {left : Leaves} → now ≡ before
+        → left ≡ pass_leaves (lent_by basis limit pass) turns draw now
+        → left ≡ left_by (lent_in ground limit pass) now (pass_in ground limit pass turns draw)
+    unfolding pass_leaves pass_in
+    pass-taken turns draw {now} e l = l ∙ rw (lent_is, pass_fits_lem e)

@@ -26,7 +26,8 @@ use Rattle.search_meaning.specs.Given.{Given, plan_day, sets_day}
 use Rattle.search_meaning.specs.Judged.{day_judged, lent_judged}
 use Rattle.search_meaning.proofs.JudgedLaws.{DayKeeps, LentKeeps, day-keeps, lent-keeps}
 use Rattle.search_meaning.specs.Search.{start_of, levels_above, lent_at, pass_at, ending_of}
-use Rattle.search_meaning.specs.Calls.{Figures, Settled, plan, no_plan, out_of_turns, settled_by, plan_left, sets_fit, search_judged, search_of}
+use Rattle.search_meaning.specs.Calls.{Settled, plan, no_plan, out_of_turns, settled_by, plan_left, sets_fit, search_judged, search_of}
+use Rattle.search_meaning.specs.declared.answer.Figures.{Figures}
 use Rattle.search_meaning.specs.declared.settings.Settings.{Settings}
 use Rattle.search.proofs.PassLaws.{hit-feasible}
 

@@ -8,18 +8,17 @@ use borrow.Author.Tests.{eq-eqb}
 use lib.Dec.{eqb, leb}
 use lib.ListN.{length, take, replicate, length-append, length-map}
 use lib.Seq.{take_at}
+use Rattle.std.specs.Prelude.{Result, Ok, Err}
 use Rattle.base_lists.specs.Pool.{pad}
 use Rattle.base_lists.proofs.Below.{and_left, and_right}
-use Rattle.day_rows.specs.Told.{done, refused, Verdict, good, refusal_tells, unless, Outcome, outcome, judged}
+use Rattle.day_rows.specs.Told.{tells, done, refused, Verdict, good, refusal_tells, unless, Outcome, outcome, judged}
 use Rattle.day_rows.specs.declared.refusal.Refusal.{Refusal}
 use Rattle.day_rows.proofs.ToldLaws.{done-is, refused-not-done, unless-done}
 use Rattle.day_rows.specs.Levels.{levels_in_range, levels_rise}
 use Rattle.sets_analysis.specs.Kept.{CriticalSet}
 use Rattle.sets_analysis.specs.LevelList.{level_list}
 use Rattle.sets_analysis.specs.Calls.{pools, pools_full, sets_in}
-use Rattle.sets_levels.specs.Calls.{list_judged, listed_of, listed_tells, level_list_of}
-use Rattle.sets_levels.specs.declared.level_list.Listed.{Listed}
-use Rattle.sets_levels.specs.declared.level_list.Listed.TheVariants as listed
+use Rattle.sets_levels.specs.Calls.{list_judged, listed_of, level_list_of}
 use Rattle.search.specs.steps.LevelPass.{list_taken, sets_listed}
 
 -- what is answered wasn't refused
@@ -46,12 +45,12 @@ module _ (levels : List ℕ) (count : ℕ) (masks set_levels : List ℕ) (limit 
       let third = unless-done (levels_rise levels) 3 good second.1 in
       rw (first.0, and_left filled (eqb (length list) 1024) second.0, third.0)
 
-  module _ {answer : Listed} {after : List ℕ} (e : outcome (listed_tells answer) after ≡ level_list_of levels count (pools masks set_levels) limit list) where
-    known_by : {known : Listed} → answer ≡ known → outcome (listed_tells known) after ≡ level_list_of levels count (pools masks set_levels) limit list
-    known_by k = ap (λ (l : Listed). outcome (listed_tells l) after) (sym k) ∙ e
+  module _ {answer : Result ℕ Refusal} {after : List ℕ} (e : outcome (tells answer) after ≡ level_list_of levels count (pools masks set_levels) limit list) where
+    known_by : {known : Result ℕ Refusal} → answer ≡ known → outcome (tells known) after ≡ level_list_of levels count (pools masks set_levels) limit list
+    known_by k = ap (λ (l : Result ℕ Refusal). outcome (tells l) after) (sym k) ∙ e
 
     -- the sets stand at the list's front
-    pub sets-listed : {sets : ℕ} → answer ≡ listed.Sets sets → (sets ≤ length after) × (take sets after ≡ sets_listed levels count (pools masks set_levels) limit)
+    pub sets-listed : {sets : ℕ} → answer ≡ Ok sets → (sets ≤ length after) × (take sets after ≡ sets_listed levels count (pools masks set_levels) limit)
     unfolding level_list_of listed_of sets_listed pad
     sets-listed {sets} k =
         let found = level_list levels (sets_in count masks set_levels) limit in
@@ -63,7 +62,7 @@ module _ (levels : List ℕ) (count : ℕ) (masks set_levels : List ℕ) (limit 
         (rw (p, length-append) (omega arith), rw (good-taken good-is, p, s) (take_at members (replicate (1024 - length members) 0) (length members) refl))
 
     -- there are no sets where the list is refused
-    pub sets-refused : {why : Refusal} → answer ≡ listed.Refused why → take 0 after ≡ sets_listed levels count (pools masks set_levels) limit
+    pub sets-refused : {why : Refusal} → answer ≡ Err why → take 0 after ≡ sets_listed levels count (pools masks set_levels) limit
     unfolding level_list_of listed_of sets_listed
     sets-refused {why} k = go (list_taken levels count (pools masks set_levels)) refl
       where

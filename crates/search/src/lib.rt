@@ -2,6 +2,7 @@
 // answers say is in proofs/.
 #![tactic(auto)]
 
+pub mod basis;
 mod order;
 pub mod pass;
 mod passes;

@@ -1,26 +1,26 @@
 // The critical sets that a pass at a limit tests.
 ghost use Rattle.std.specs.Prelude.{◌≡◌, ◌≤◌, length, take};
-ghost use Rattle.sets_analysis.specs.Calls.{pools};
-ghost use Rattle.search.specs.steps.LevelPass.{sets_listed};
+ghost use Rattle.search.specs.steps.LevelPass.{basis_lent, sets_listed};
 
-use sets_levels::level_list::{Listed, level_list};
+use super::basis::Basis;
+use sets_levels::level_list::level_list;
 
 // How many sets the list of a limit has, written from its front; none where the list is refused.
-pub(crate) fn sets_at(
-    levels: &[u16],
-    limit: u16,
-    masks: &[u64],
-    set_levels: &[u16],
-    count: usize,
-    list: &mut [u64],
-) -> usize
+pub(crate) fn sets_at(basis: &Basis, limit: u16, list: &mut [u64]) -> usize
     requires { 1024 ≡ length list.old }
-    ensures { let lent = pools masks.now set_levels.now in
-        let sets = sets_listed levels.now count lent limit in
+    ensures { let basis = basis_lent basis.now in
+        let sets = sets_listed basis.levels basis.count basis.pools limit in
         (result ≤ length list.new) × (take result list.new ≡ sets) }
 {
-    let listed = level_list(levels, limit, masks, set_levels, count, list);
-    let Listed::Sets(sets) = listed else {
+    let listed = level_list(
+        basis.levels,
+        limit,
+        basis.masks,
+        basis.set_levels,
+        basis.count,
+        list,
+    );
+    let Ok(sets) = listed else {
         return 0;
     };
     sets

@@ -17,7 +17,7 @@ use Rattle.search_map.proofs.OwnMap.{own-keeps}
 use Rattle.search_meaning.specs.Judged.{day_judged}
 use Rattle.search_meaning.proofs.JudgedLaws.{DayKeeps, day-keeps}
 use Rattle.search_day.specs.Planning.{whole_of, given_with}
-use Rattle.search_day.specs.declared.plan.PlanCounts.{PlanCounts}
+use Rattle.search_day.specs.declared.given.PlanCounts.{PlanCounts}
 
 -- the whole list is 0, 1, 2 ..
 counts_up : (n : ℕ) → is_whole (list_below n (λ k. k)) ≡ true

@@ -2,16 +2,18 @@
 -- first, and the call.
 use Rattle.std.specs.Prelude.{Bool, true, List, ℕ, min, leb, length}
 use Rattle.base_lists.specs.Flat.{list_below}
-use Rattle.day_rows.specs.Told.{good, unless, and_then, Outcome, judged}
+use Rattle.day_rows.specs.Told.{Verdict, good, unless, and_then, Outcome, judged}
 use Rattle.sets_analysis.specs.declared.analysis.Analysis.{Analysis}
-use Rattle.search_map.specs.Map.{own_numbers}
+use Rattle.search_map.specs.Map.{Map, own_numbers}
 use Rattle.search_map.specs.Calls.{own_pools}
 use Rattle.search_meaning.specs.Given.{Given, given_of}
 use Rattle.search_meaning.specs.Judged.{day_judged}
 use Rattle.search_meaning.specs.declared.counts.SearchCounts.{SearchCounts}
 use Rattle.search_meaning.specs.Calls.{Settled, search_of}
 use Rattle.search_meaning.specs.declared.settings.Settings.{Settings}
-use Rattle.search_day.specs.declared.plan.PlanCounts.{PlanCounts}
+use Rattle.search_day.specs.declared.given.PlanCounts.{PlanCounts}
+use Rattle.search_day.specs.declared.given.PlanGiven.{PlanGiven}
+use Rattle.search_day.specs.declared.settings.PlanSettings.{PlanSettings}
 
 -- ---- what the search is given
 
@@ -68,3 +70,36 @@ plan_day_of counts mins maxs optional levels preferences rows orders draws setti
     (unless (leb (length (own_numbers rows counts.choices)) 10240) 6 good))
     before
     (search_of (given_own counts mins maxs optional levels preferences rows orders draws) settings before)
+
+-- ---- what the call is lent
+
+-- the settings of a full search, as they are lent
+abbrev pub full_settings : PlanSettings → Settings
+full_settings settings =
+    full_by settings.analysis settings.at_last_level settings.pass_budget settings.total_budget
+
+-- what is lent, with a map of so many numbers
+abbrev pub given_mapped : PlanGiven → ℕ → Map → List ℕ → Given
+given_mapped given numbers map whole =
+    given_of (with_numbers numbers given.counts) given.mins.now given.maxs.now given.optional.now
+    given.levels.now given.preferences.now given.rows.now map whole given.orders.now given.draws.now
+
+-- what is lent, with its own map
+abbrev pub own_given : PlanGiven → Given
+own_given given =
+    given_own given.counts given.mins.now given.maxs.now given.optional.now
+    given.levels.now given.preferences.now given.rows.now given.orders.now given.draws.now
+
+-- the first refusals of what is lent: 1, 2, 3, 4, 5
+abbrev pub judged_first : PlanGiven → List ℕ → Verdict
+judged_first given before =
+    day_judged
+    (given_with 0 given.counts given.mins.now given.maxs.now given.optional.now
+    given.levels.now given.preferences.now given.rows.now given.orders.now given.draws.now)
+    before
+
+-- the answer and the plan of what is lent
+abbrev pub planned_by : PlanGiven → Settings → List ℕ → Outcome Settled (List ℕ)
+planned_by given settings before =
+    plan_day_of given.counts given.mins.now given.maxs.now given.optional.now
+    given.levels.now given.preferences.now given.rows.now given.orders.now given.draws.now settings before

@@ -1,6 +1,7 @@
 // A day planned with its own map by the full search.
 #![tactic(auto)]
 
+pub mod given;
 pub mod plan;
-mod settings;
+pub mod settings;
 mod whole;

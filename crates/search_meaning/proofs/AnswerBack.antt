@@ -1,6 +1,7 @@
 -- A search's answer, read back from what it tells: no two answers tell the same.
 use mathlib.Core.Path.{◌≡◌, refl, ap}
-use Rattle.std.specs.Prelude.{Result, Ok, Err}
+use Rattle.std.specs.Prelude.{Result, Ok, Err, IsErrAnd}
+use Rattle.day_rows.specs.Refusal.{number_of, carried_by}
 use Rattle.day_rows.specs.Told.{Told, done, refused}
 use Rattle.day_rows.proofs.ToldLaws.{refusal_of, refusal-back}
 use Rattle.day_rows.specs.declared.refusal.Refusal.{Refusal}
@@ -27,3 +28,8 @@ searched_of (refused number carried) = Err (refusal_of number carried)
 pub searched-back : (answer : Result Searched Refusal) → searched_of (searched_tells answer) ≡ answer
 searched-back (Ok answer) = ap Ok (settled-back answer)
 searched-back (Err why) = ap Err (refusal-back why)
+
+-- an error that a search passes on by `?` is told as it was
+pub searched-passed : (answer : Result Searched Refusal) (why : Refusal) → IsErrAnd answer (λ given. given ≡ why) → searched_tells answer ≡ refused (number_of why) (carried_by why)
+searched-passed (Ok value) why h = absurd h
+searched-passed (Err given) why h = ap (λ (why : Refusal). refused (number_of why) (carried_by why)) h

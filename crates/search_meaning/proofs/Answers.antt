@@ -5,7 +5,7 @@ use mathlib.Core.List.{List}
 use Prim.Native.Nat.{ℕ, ◌<◌}
 use borrow.Author.Tests.{leb-true, leb-false}
 use lib.Dec.{leb}
-use Rattle.std.specs.Prelude.{Result, Ok, Err}
+use Rattle.std.specs.Prelude.{Result, Ok, Err, IsErrAnd}
 use Rattle.day_rows.specs.Told.{outcome}
 use Rattle.day_rows.specs.declared.refusal.Refusal.{Refusal}
 use Rattle.search_meaning.specs.Given.{Given}
@@ -31,3 +31,8 @@ module _ (given : Given) (settings : Settings) (before after : List ℕ) (full :
       go true t = absurd ((demand given settings before full own (out_of_turns figures) after e).never-out (leb-true _ _ t) figures refl)
       go false t = leb-false _ _ t
   answered (Err why) e = tt
+
+-- an error that a search passes on by `?` says nothing of plans
+pub refused-says : (given : Given) (turns : ℕ) (after : List ℕ) (answer : Result Searched Refusal) (why : Refusal) → IsErrAnd answer (λ given. given ≡ why) → AnswerSays given turns after answer
+refused-says given turns after (Ok value) why h = absurd h
+refused-says given turns after (Err given') why h = tt

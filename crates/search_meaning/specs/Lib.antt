@@ -5,3 +5,4 @@ pub mod Judged
 pub mod Search
 pub mod SearchAnswer
 pub mod steps
+pub use Rattle.search_map.specs.Map

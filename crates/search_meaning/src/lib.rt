@@ -7,3 +7,6 @@ pub mod counts;
 pub mod given;
 pub mod judge;
 pub mod settings;
+
+// The map that a search is given, for who calls one.
+pub use search_map::map;

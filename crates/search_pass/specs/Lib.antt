@@ -1,1 +1,2 @@
 pub mod steps
+pub use Rattle.search_turn.specs.Lent

@@ -1,6 +1,6 @@
 -- The analysis as a call, a law for each way through its functions.
 use mathlib.Core.Path.{◌≡◌, refl, sym, ◌∙◌, ap, ap₂}
-use mathlib.Core.Bool.{Bool, true, false, ◌&&◌, false≢true}
+use mathlib.Core.Bool.{Bool, true, false, ◌&&◌}
 use mathlib.Core.List.{List, []}
 use Prim.Native.Nat.{ℕ, ◌*◌, ◌≤◌, ◌<◌}
 use native.Mathlib.Omega.{arith}
@@ -9,7 +9,8 @@ use lib.Dec.{eqb}
 use lib.ListN.{length}
 use Rattle.base_lists.specs.Flat.{list_below}
 use Rattle.base_lists.proofs.Below.{and_left, and_right}
-use Rattle.day_rows.specs.Told.{Told, done, refused, refuse, unless, Outcome, outcome, judged}
+use Rattle.day_rows.specs.Told.{Told, done, refused, refuse, Outcome, outcome, judged}
+use Rattle.day_rows.proofs.ToldLaws.{unless-done}
 use Rattle.base_lists.specs.All.{all_at_most}
 use Rattle.day_rows.specs.Levels.{levels_rise, last_level}
 use Rattle.sets_analysis.specs.SetsDay.{SetsDay, sets_counts_in_range, sets_lengths_fit}
@@ -73,16 +74,6 @@ module _ (day : SetsDay) (masks levels : List ℕ) where
                 let z : all_at_most (last_level day.levels) day.preferences ≡ true = ap (λ (n : ℕ). all_at_most n day.preferences) (sym e) ∙ h in
                 rw (counts, lengths, eq-eqb _ _ full, eq-eqb _ _ full', rise, z)
 
--- whether an answer isn't a refusal
-is_done : {A : Type 0} → Told A → Bool
-is_done (done value) = true
-is_done (refused number carried) = false
-
-pub passed : {A : Type 0} (test : Bool) (number : ℕ) (rest : Told A) {value : A} → unless test number rest ≡ done value → (test ≡ true) × (rest ≡ done value)
-unfolding is_done
-passed true number rest e = (refl, e)
-passed false number rest e = absurd (false≢true (ap is_done e))
-
 pub full-known : (masks levels : List ℕ) → pools_full (pools masks levels) ≡ true → Lent 0 masks levels
 unfolding pools_full
 full-known masks levels h =
@@ -96,8 +87,8 @@ full-known masks levels h =
 pub judged-fits : (day : SetsDay) (masks levels : List ℕ) → day_judged day (pools masks levels) ≡ done _ → Lent 0 masks levels × Fits day
 unfolding day_judged
 judged-fits day masks levels h =
-    let a = passed (sets_counts_in_range day.counts) 1 _ h in
-    let b = passed (sets_lengths_fit day && pools_full (pools masks levels)) 2 _ a.1 in
+    let a = unless-done (sets_counts_in_range day.counts) 1 _ h in
+    let b = unless-done (sets_lengths_fit day && pools_full (pools masks levels)) 2 _ a.1 in
     let f = counts-known day.counts a.0 in
     let l = lengths-known day (and_left (sets_lengths_fit day) (pools_full (pools masks levels)) b.0) in (
       full-known masks levels (and_right (sets_lengths_fit day) (pools_full (pools masks levels)) b.0),

@@ -10,11 +10,11 @@ use borrow.Author.Tests.{lt-ltb, le-ltb, le-leb, leb-true}
 use lib.Dec.{ltb, leb}
 use lib.ListN.{length, get_or, drop, drop_of_length-le}
 use lib.Seq.{drop-cons}
+use Rattle.std.specs.Prelude.{None, Some}
 use Rattle.base_lists.specs.All.{all_of}
 use Rattle.base_lists.proofs.All.{all-passes, all-fails, all-passed}
 use Rattle.base_lists.proofs.Below.{and_left, and_right}
 use Rattle.text_lines.specs.Number.{is_digit, value_from, is_number, number_in}
-use Rattle.text_lines.specs.declared.number.Number.TheVariants as number
 
 -- a digit is from `0` to `9`
 pub digit_range : (byte : ℕ) → is_digit byte ≡ true → (48 ≤ byte) × (byte ≤ 57)
@@ -30,25 +30,25 @@ value-least value (byte ∷ bytes) =
     omega arith
 
 -- nothing is no number
-pub number-empty : (bytes : List ℕ) → length bytes ≡ 0 → number.None ≡ number_in bytes
+pub number-empty : (bytes : List ℕ) → length bytes ≡ 0 → None ≡ number_in bytes
 unfolding is_number number_in
 number-empty bytes e = rw e
 
 -- neither is what has another byte than digits
-number-other : (bytes : List ℕ) → all_of is_digit bytes ≡ false → number.None ≡ number_in bytes
+number-other : (bytes : List ℕ) → all_of is_digit bytes ≡ false → None ≡ number_in bytes
 unfolding is_number number_in
 number-other bytes e = rw e (go (leb 1 (length bytes)))
   where
-    go : (a : Bool) → number.None ≡ cond (a && false && ltb (value_from 0 bytes) (2 ^ 64)) (number.Value (value_from 0 bytes)) number.None
+    go : (a : Bool) → None ≡ cond (a && false && ltb (value_from 0 bytes) (2 ^ 64)) (Some (value_from 0 bytes)) None
     go true = refl
     go false = refl
 
 -- nor what is too large
-number-large : (bytes : List ℕ) → 2 ^ 64 ≤ value_from 0 bytes → number.None ≡ number_in bytes
+number-large : (bytes : List ℕ) → 2 ^ 64 ≤ value_from 0 bytes → None ≡ number_in bytes
 unfolding is_number number_in
 number-large bytes h = rw (le-ltb (value_from 0 bytes) (2 ^ 64) h) (go (leb 1 (length bytes)) (all_of is_digit bytes))
   where
-    go : (a b : Bool) → number.None ≡ cond (a && b && false) (number.Value (value_from 0 bytes)) number.None
+    go : (a b : Bool) → None ≡ cond (a && b && false) (Some (value_from 0 bytes)) None
     go true true = refl
     go true false = refl
     go false true = refl
@@ -56,7 +56,7 @@ number-large bytes h = rw (le-ltb (value_from 0 bytes) (2 ^ 64) h) (go (leb 1 (l
 
 -- everything else is its value
 number-value : (bytes : List ℕ) (value : ℕ) → 1 ≤ length bytes → all_of is_digit bytes ≡ true → value_from 0 bytes ≡ value → value < 2 ^ 64
-    → number.Value value ≡ number_in bytes
+    → Some value ≡ number_in bytes
 unfolding is_number number_in
 number-value bytes value h e v l = rw (le-leb 1 (length bytes) h, e, v, lt-ltb value (2 ^ 64) l)
 
@@ -83,11 +83,11 @@ module _ {bytes : List ℕ} {value i : ℕ} (r : Reading bytes value i) where
   step h = sym (rw (add-one i, drop-cons bytes i 0 h)) ∙ r.valued
 
   -- another byte ends it
-  pub reading_other : i < length bytes → is_digit (get_or bytes i 0) ≡ false → number.None ≡ number_in bytes
+  pub reading_other : i < length bytes → is_digit (get_or bytes i 0) ≡ false → None ≡ number_in bytes
   reading_other h t = number-other bytes (sym r.digits ∙ all-fails is_digit bytes i 0 h t)
 
   -- a value that grows too large ends it
-  pub reading_large : i < length bytes → 2 ^ 64 ≤ 10 * value + (get_or bytes i 0 - 48) → number.None ≡ number_in bytes
+  pub reading_large : i < length bytes → 2 ^ 64 ≤ 10 * value + (get_or bytes i 0 - 48) → None ≡ number_in bytes
   reading_large h l =
       number-large bytes (rw (sym (step h)) (le_trans l (value-least (10 * value + (get_or bytes i 0 - 48)) (drop (i + 1) bytes))))
 
@@ -104,7 +104,7 @@ module _ {bytes : List ℕ} {value i : ℕ} (r : Reading bytes value i) where
       }
 
   -- all is read
-  pub reading_end : length bytes ≤ i → number.Value value ≡ number_in bytes
+  pub reading_end : length bytes ≤ i → Some value ≡ number_in bytes
   unfolding value_from
   reading_end h =
       let v : value_from 0 bytes ≡ value = sym r.valued ∙ rw (drop_of_length-le bytes {i = i} h) in

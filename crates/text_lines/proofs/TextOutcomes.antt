@@ -5,9 +5,9 @@ use Prim.Native.Nat.{ℕ}
 use Rattle.base_lists.proofs.Outcome.{no_two}
 use Rattle.text_lines.specs.Put.{Pool, pool, put_at}
 use Rattle.text_lines.specs.Number.{number_in}
-use Rattle.text_lines.specs.declared.number.Number.{Number}
+use Rattle.std.specs.Prelude.{Option}
 
-pub one_number : (bytes : List ℕ) {a b : Number} → a ≡ number_in bytes → b ≡ number_in bytes → a ≡ b
+pub one_number : (bytes : List ℕ) {a b : Option ℕ} → a ≡ number_in bytes → b ≡ number_in bytes → a ≡ b
 one_number bytes = no_two
 
 -- the pool and the next place

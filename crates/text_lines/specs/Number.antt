@@ -1,8 +1,6 @@
 -- A number read from its digits: an argument that is no number is told from one that is.
-use Rattle.std.specs.Prelude.{Bool, cond, ◌&&◌, List, [], ◌∷◌, ℕ, ◌+◌, ◌*◌, ◌-◌, ◌^◌, ltb, leb, length}
+use Rattle.std.specs.Prelude.{Bool, cond, ◌&&◌, List, [], ◌∷◌, ℕ, ◌+◌, ◌*◌, ◌-◌, ◌^◌, ltb, leb, length, Option, None, Some}
 use Rattle.base_lists.specs.All.{all_of}
-use Rattle.text_lines.specs.declared.number.Number.{Number}
-use Rattle.text_lines.specs.declared.number.Number.TheVariants as number
 
 -- a byte from `0` to `9`
 unfoldable pub is_digit : ℕ → Bool
@@ -18,5 +16,5 @@ unfoldable pub is_number : List ℕ → Bool
 is_number bytes = leb 1 (length bytes) && all_of is_digit bytes && ltb (value_from 0 bytes) (2 ^ 64)
 
 -- the number that the bytes are, or none
-unfoldable pub number_in : List ℕ → Number
-number_in bytes = cond (is_number bytes) (number.Value (value_from 0 bytes)) number.None
+unfoldable pub number_in : List ℕ → Option ℕ
+number_in bytes = cond (is_number bytes) (Some (value_from 0 bytes)) None

@@ -2,11 +2,16 @@
 use Rattle.std.specs.Prelude.{Bool, cond, ◌&&◌, List, [], ◌∷◌, ℕ, zero, suc, ◌+◌, ◌*◌, ◌^◌, ltb, leb, length, take, drop}
 use Rattle.text_lines.specs.Put.{Pool, pool, put_at}
 use Rattle.text_lines.specs.PlansLines.{page_text}
+use Rattle.text_lines.specs.declared.plans_lines.Page as lent
 
 -- the first so many plans of a page, of so many choices each
 unfoldable pub plans_in : ℕ → ℕ → List ℕ → List (List ℕ)
 plans_in zero choices page = []
 plans_in (suc count) choices page = take choices page ∷ plans_in count choices (drop choices page)
+
+-- the plans of a page that is lent
+abbrev pub plans_lent : lent.Page → List (List ℕ)
+plans_lent page = plans_in page.count page.choices page.plans.now
 
 -- the length of the longest text of `plans`: 50 bytes of two lines, and 1,024 plans of 64 places at 282 bytes
 abbrev pub longest : ℕ

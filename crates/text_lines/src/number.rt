@@ -2,34 +2,19 @@
 ghost use Rattle.std.specs.Prelude.{◌≡◌};
 ghost use Rattle.text_lines.specs.Number.{number_in};
 
-// What the bytes are: a number of 64 bits, or none.
-#[derive(Clone, Copy)]
-pub enum Number {
-    Value(u64),
-    None,
-}
-
 // The number in decimal that the bytes are, of digits alone and below 2^64.
-pub fn number_of(bytes: &[u8]) -> Number
+pub fn number_of(bytes: &[u8]) -> Option<u64>
     ensures { result ≡ number_in bytes.now }
 {
-    if bytes.len() == 0 {
-        return Number::None;
+    if bytes.is_empty() {
+        return None;
     }
     let mut value = 0u64;
     for byte in bytes {
         if !byte.is_ascii_digit() {
-            return Number::None;
+            return None;
         }
-        let digit = (*byte - 48) as u64;
-        let is_large = 1_844_674_407_370_955_161 < value;
-        if is_large {
-            return Number::None;
-        }
-        if 18_446_744_073_709_551_615 - 10 * value < digit {
-            return Number::None;
-        }
-        value = 10 * value + digit;
+        value = value.checked_mul(10)?.checked_add(u64::from(*byte - b'0'))?;
     }
-    Number::Value(value)
+    Some(value)
 }

@@ -14,6 +14,15 @@ pub const LONGEST_TEXT: usize = 1311;
 // The most choices of a plan.
 const MOST_CHOICES: usize = 64;
 
+// 'after found, none and turns also `turns`, `passes`, `limit`': the turns used, the passes begun and the last
+// limit.
+#[derive(Clone, Copy)]
+pub struct Figures {
+    pub turns: u64,
+    pub passes: usize,
+    pub limit: u16,
+}
+
 // Puts a choice's place at the end of its line: its slot, or `out`.
 fn put_place(text: &mut [u8], at: usize, place: u8) -> usize
     requires { Fits text.old at (place_text place) }
@@ -48,20 +57,22 @@ fn put_choices(text: &mut [u8], at: usize, plan: &[u8]) -> usize
 }
 
 // Puts line one, and the three figures behind it.
-fn put_figures(text: &mut [u8], line: &[u8], used: u64, passes: usize, limit: u16) -> usize
-    requires { Fits text.old 0 (line.now ++ figures_text used passes limit) }
-    ensures { let lines = line.now ++ figures_text used passes limit in
+fn put_figures(text: &mut [u8], line: &[u8], figures: Figures) -> usize
+    requires { let lines = line.now ++ figures_text figures.turns figures.passes figures.limit in
+        Fits text.old 0 lines }
+    ensures { let lines = line.now ++ figures_text figures.turns figures.passes figures.limit in
         Put text.old 0 lines text.new result }
 {
     let turns_at = put_bytes(text, 0, line);
-    let passes_at = put_number_line(text, turns_at, b"turns ", used);
-    let limit_at = put_number_line(text, passes_at, b"passes ", passes as u64);
-    put_number_line(text, limit_at, b"limit ", limit as u64)
+    let passes_at = put_number_line(text, turns_at, b"turns ", figures.turns);
+    let limit_at = put_number_line(text, passes_at, b"passes ", figures.passes as u64);
+    put_number_line(text, limit_at, b"limit ", figures.limit as u64)
 }
 
 // Puts the text of `found`: the figures, and a line a choice.
-pub fn put_found(text: &mut [u8], used: u64, passes: usize, limit: u16, plan: &[u8]) -> usize
-    ensures { pool text.new result ≡ put_found text.old used passes limit plan.now }
+pub fn put_found(text: &mut [u8], figures: Figures, plan: &[u8]) -> usize
+    ensures { let said = put_found text.old figures.turns figures.passes figures.limit plan.now in
+        pool text.new result ≡ said }
 {
     if MOST_CHOICES < plan.len() {
         return 0;
@@ -69,26 +80,28 @@ pub fn put_found(text: &mut [u8], used: u64, passes: usize, limit: u16, plan: &[
     if text.len() < LONGEST_TEXT {
         return 0;
     }
-    let choices_at = put_figures(text, b"result found\n", used, passes, limit);
+    let choices_at = put_figures(text, b"result found\n", figures);
     put_choices(text, choices_at, plan)
 }
 
 // Puts the text of `none`: the figures.
-pub fn put_none(text: &mut [u8], used: u64, passes: usize, limit: u16) -> usize
-    ensures { pool text.new result ≡ put_whole text.old (none used passes limit) }
+pub fn put_none(text: &mut [u8], figures: Figures) -> usize
+    ensures { let said = none figures.turns figures.passes figures.limit in
+        pool text.new result ≡ put_whole text.old said }
 {
     if text.len() < LONGEST_TEXT {
         return 0;
     }
-    put_figures(text, b"result none\n", used, passes, limit)
+    put_figures(text, b"result none\n", figures)
 }
 
 // Puts the text of `turns`: the figures.
-pub fn put_turns(text: &mut [u8], used: u64, passes: usize, limit: u16) -> usize
-    ensures { pool text.new result ≡ put_whole text.old (turns used passes limit) }
+pub fn put_turns(text: &mut [u8], figures: Figures) -> usize
+    ensures { let said = turns figures.turns figures.passes figures.limit in
+        pool text.new result ≡ put_whole text.old said }
 {
     if text.len() < LONGEST_TEXT {
         return 0;
     }
-    put_figures(text, b"result turns\n", used, passes, limit)
+    put_figures(text, b"result turns\n", figures)
 }

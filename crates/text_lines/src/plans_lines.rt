@@ -1,12 +1,22 @@
 // The lines of the program `plans`.
-ghost use Rattle.std.specs.Prelude.{◌≡◌, ◌+◌, ◌*◌, ◌≤◌, ◌<◌, ◌^◌, length};
+ghost use Rattle.std.specs.Prelude.{◌≡◌, ℕ, ◌+◌, ◌*◌, ◌≤◌, ◌<◌, ◌^◌, leb, length, slice_index};
 ghost use mathlib.Core.List.{flat_map};
 ghost use Rattle.text_lines.specs.Put.{pool, put_at};
 ghost use Rattle.text_lines.specs.steps.Put.{Fits, Put};
 ghost use Rattle.text_lines.specs.PlansLines.{place_text, plan_line, plan_lines, page_text};
-ghost use Rattle.text_lines.specs.Pages.{plans_in, put_page};
+ghost use Rattle.text_lines.specs.Pages.{plans_lent, put_page};
 
 use super::put::{put_bytes, put_number, put_number_line};
+
+// A page as its text is made of it: the number of its first plan in the list, how many plans there are, of how
+// many choices, and the plans one after another, a byte a place.
+#[derive(Clone, Copy)]
+pub struct Page<'a> {
+    pub first: u64,
+    pub count: usize,
+    pub choices: usize,
+    pub plans: &'a [u8],
+}
 
 // Puts one place of a plan's line: a slot, or `out`.
 fn put_place(text: &mut [u8], at: usize, place: u8) -> usize
@@ -44,78 +54,60 @@ fn put_plan(text: &mut [u8], at: usize, number: u64, plan: &[u8]) -> usize
 }
 
 // Puts a line for each of the plans that lie one after another in the page.
-fn put_plans(
-    text: &mut [u8],
-    at: usize,
-    first: u64,
-    count: usize,
-    choices: usize,
-    page: &[u8],
-) -> usize
-    requires fact_1 { let plans = plans_in count choices page.now in
-        count * choices ≤ length page.now }
-    requires fact_2 { let plans = plans_in count choices page.now in
-        first + count < 2 ^ 64 }
-    requires fact_3 { let plans = plans_in count choices page.now in
-        Fits text.old at (plan_lines first plans) }
-    ensures { let plans = plans_in count choices page.now in
-        Put text.old at (plan_lines first plans) text.new result }
+fn put_plans(text: &mut [u8], at: usize, page: &Page) -> usize
+    requires held { page.now.count * page.now.choices ≤ length page.now.plans.now }
+    requires numbered { page.now.first + page.now.count < 2 ^ 64 }
+    requires room { Fits text.old at (plan_lines page.now.first (plans_lent page.now)) }
+    ensures { Put text.old at (plan_lines page.now.first (plans_lent page.now)) text.new result }
 {
     let mut next = at;
-    for i in 0..count {
-        let from = i * choices;
-        next = put_plan(text, next, first + i as u64, &page[from..from + choices]);
+    for i in 0..page.count {
+        let from = i * page.choices;
+        let plan = &page.plans[from..from + page.choices];
+        next = put_plan(text, next, page.first + i as u64, plan);
     }
     next
 }
 
 // Puts a page that has room: the head with the number at its end, and the plans.
-fn put_fitting_page(
-    text: &mut [u8],
-    head: &[u8],
-    first: u64,
-    number: u64,
-    count: usize,
-    choices: usize,
-    page: &[u8],
-) -> usize
-    requires fact_1 { let plans = plans_in count choices page.now in
-        count * choices ≤ length page.now }
-    requires fact_2 { let plans = plans_in count choices page.now in
-        first + count < 2 ^ 64 }
-    requires fact_3 { let plans = plans_in count choices page.now in
-        Fits text.old 0 (page_text head.now first number plans) }
-    ensures { let plans = plans_in count choices page.now in
-        Put text.old 0 (page_text head.now first number plans) text.new result }
+fn put_fitting_page(text: &mut [u8], head: &[u8], number: u64, page: &Page) -> usize
+    requires held { page.now.count * page.now.choices ≤ length page.now.plans.now }
+    requires numbered { page.now.first + page.now.count < 2 ^ 64 }
+    requires room { let plans = plans_lent page.now in
+        Fits text.old 0 (page_text head.now page.now.first number plans) }
+    ensures { let plans = plans_lent page.now in
+        Put text.old 0 (page_text head.now page.now.first number plans) text.new result }
 {
     let plans_at = put_number_line(text, 0, head, number);
-    put_plans(text, plans_at, first, count, choices, page)
+    put_plans(text, plans_at, page)
+}
+
+// Whether plans of so many places in all are there, a byte a place.
+fn holds(plans: &[u8], places: usize) -> bool
+    ensures held { result ≡ leb places (length plans.now) }
+    ensures bytes { (place : ℕ) → slice_index plans.now place < 256 }
+{
+    places <= plans.len()
 }
 
 // Puts a page where it is within the limits: a head of at most 29 bytes with the number at its end, and the
 // plans.
-pub fn put_page(
-    text: &mut [u8],
-    head: &[u8],
-    first: u64,
-    number: u64,
-    count: usize,
-    choices: usize,
-    page: &[u8],
-) -> usize
+pub fn put_page(text: &mut [u8], head: &[u8], number: u64, page: &Page) -> usize
     ensures { let after = pool text.new result in
-        after ≡ put_page text.old head.now first number count choices page.now }
+        let plans = page.now.plans.now in
+        after
+        ≡ put_page text.old head.now page.now.first number page.now.count page.now.choices plans }
 {
-    if 1024 < count {
+    if 1024 < page.count {
         return 0;
     }
-    if 64 < choices {
+    if 64 < page.choices {
         return 0;
     }
-    if page.len() < count * choices {
+    if !holds(page.plans, page.count * page.choices) {
         return 0;
     }
-    if 18_446_744_073_709_551_615 - first < count as u64 {
+    if u64::MAX - page.first < page.count as u64 {
         return 0;
     }
     if 29 < head.len() {
@@ -124,5 +116,5 @@ pub fn put_page(
     if text.len() < 288_818 {
         return 0;
     }
-    put_fitting_page(text, head, first, number, count, choices, page)
+    put_fitting_page(text, head, number, page)
 }

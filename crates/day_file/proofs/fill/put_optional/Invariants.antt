@@ -1,10 +1,10 @@
 -- The loop's invariant: the first i entries are the file's.
 use mathlib.Core.Path.{◌≡◌}
-use Prim.Native.Nat.{◌+◌, ◌*◌}
 use lib.ListN.{length, get_or, take}
 use Rattle.base_lists.specs.Flat.{list_below}
+use Rattle.day_file.specs.steps.Columns.{place}
 use Rattle.day_file.proofs.fill.put_optional.Given as goal
 
 abbrev pub invariant-loop-i : goal.invariant-loop-i
 invariant-loop-i l =
-    (length l.pool ≡ length l.initial.pool) × (take l.i l.pool ≡ list_below l.i (λ k. get_or l.file (15 + 5 * k) 0))
+    (length l.pool ≡ length l.initial.pool) × (take l.i l.pool ≡ list_below l.i (λ k. get_or l.file (place l.flags k) 0))

@@ -7,10 +7,10 @@ pub loop-i-init : goal.loop-i-init
 loop-i-init c =
     all_none _
 
-pub returns-then-word_at : goal.returns-then-word_at
-returns-then-word_at c =
-    rise-fails _ _ _ c.word_at.ensures c.word_at-in-loop-i.ensures c.args.n (omega arith) c.if-word_at.true
+pub returns-then-next-level : goal.returns-then-next-level
+returns-then-next-level c =
+    rise-fails _ c.args.levels _ c.word_at-level.ensures c.word_at-next.ensures c.args.levels.count (omega arith) c.if-next-level.true
 
 pub loop-i-preserved : goal.loop-i-preserved
 loop-i-preserved c =
-    rise-more _ _ _ c.word_at.ensures c.word_at-in-loop-i.ensures c.loop-i.invariant c.if-word_at.false
+    rise-more _ c.args.levels _ c.word_at-level.ensures c.word_at-next.ensures c.loop-i.invariant c.if-next-level.false

@@ -7,4 +7,4 @@ use Rattle.day_file.proofs.judge.levels_in.Given as goal
 
 abbrev pub invariant-loop-i : goal.invariant-loop-i
 invariant-loop-i l =
-    all_below l.i (rising l.file l.at) ≡ true
+    all_below l.i (rising l.file l.levels) ≡ true

@@ -8,10 +8,10 @@ pub loop-i-init : goal.loop-i-init
 loop-i-init c =
     all_none _
 
-pub returns-then-file-i-gt1 : goal.returns-then-file-i-gt1
-returns-then-file-i-gt1 c =
-    sym (one-fails _ _ _ c.loop-i-test.true (lt-leb _ _ c.if-file-i-gt1.true))
+pub returns-then-file-flags-gt1 : goal.returns-then-file-flags-gt1
+returns-then-file-flags-gt1 c =
+    sym (one-fails _ _ _ c.loop-i-test.true (lt-leb _ _ c.if-file-flags-gt1.true))
 
 pub loop-i-preserved : goal.loop-i-preserved
 loop-i-preserved c =
-    all_more _ _ c.loop-i.invariant (le-leb _ _ c.if-file-i-gt1.false)
+    all_more _ _ c.loop-i.invariant (le-leb _ _ c.if-file-flags-gt1.false)

@@ -8,8 +8,8 @@ loop-i-init c =
 
 pub returns-then-last-word_at : goal.returns-then-last-word_at
 returns-then-last-word_at c =
-    under-fails _ _ _ _ c.word_at.ensures _ c.loop-i-test.true c.if-last-word_at.true
+    under-fails _ c.args.preferences _ _ c.word_at.ensures _ c.loop-i-test.true c.if-last-word_at.true
 
 pub loop-i-preserved : goal.loop-i-preserved
 loop-i-preserved c =
-    under_more _ _ _ _ c.word_at.ensures c.loop-i.invariant c.if-last-word_at.false
+    under_more _ c.args.preferences _ _ c.word_at.ensures c.loop-i.invariant c.if-last-word_at.false

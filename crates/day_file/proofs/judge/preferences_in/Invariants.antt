@@ -7,4 +7,4 @@ use Rattle.day_file.proofs.judge.preferences_in.Given as goal
 
 abbrev pub invariant-loop-i : goal.invariant-loop-i
 invariant-loop-i l =
-    all_below l.i (under l.file l.at l.last) ≡ true
+    all_below l.i (under l.file l.preferences l.last) ≡ true

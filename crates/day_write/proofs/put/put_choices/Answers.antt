@@ -11,5 +11,5 @@ loop-i-init c =
 
 pub loop-i-preserved : goal.loop-i-preserved
 loop-i-preserved c =
-    let s = c in
-    (c.put_choice.auto.pool ∙ c.loop-i.invariant.0, sets_join 5 (choice_bytes s.args.mins.now s.args.maxs.now s.args.optional.now) (length-choice s.args.mins.now s.args.maxs.now s.args.optional.now) _ _ _ c.loop-i.invariant.1 (choice-is _ _ _ _ _ _ c.put_choice.ensures))
+    let day = c.args.day.now in
+    (c.put_choice.auto.pool ∙ c.loop-i.invariant.0, sets_join 5 (choice_bytes day.mins.now day.maxs.now day.optional.now) (length-choice day.mins.now day.maxs.now day.optional.now) _ _ _ c.loop-i.invariant.1 (choice-is _ _ _ _ _ _ c.put_choice.ensures))

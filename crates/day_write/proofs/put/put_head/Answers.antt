@@ -5,7 +5,7 @@ use Rattle.day_write.proofs.put.put_head.Goals as goal
 
 pub put_length-requires : goal.put_length-requires
 put_length-requires c =
-    record { fact_1 = rest-fits (in_range _ c.requires.fact_1) c.rest_of.ensures; fact_2 = c.requires.fact_2 }
+    record { fits = rest-fits (in_range _ c.requires.ranges) c.rest_of.ensures; room = c.requires.room }
 
 pub returns : goal.returns
 returns c =

@@ -4,4 +4,4 @@ use Rattle.day_write.proofs.word.put_row.Goals as goal
 
 pub returns : goal.returns
 returns c =
-    row_put _ _ _ c.of-row.ensures c.flip_sign_bit.ensures c.put_word.ensures c.put_word-2.ensures
+    row_put _ _ _ c.from-row.ensures c.flip_sign_bit.ensures c.put_word.ensures c.put_word-2.ensures

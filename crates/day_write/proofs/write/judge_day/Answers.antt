@@ -16,4 +16,4 @@ returns-then-room-ne-LONGEST_FILE c =
 
 pub returns : goal.returns
 returns c =
-    day-lists _ _ c.in_range.ensures (c.if-not-in_range.false) c.lengths_keep.ensures (c.if-not-lengths_keep.false) c.if-room-ne-LONGEST_FILE.false (c.judge_lists.ensures _ _)
+    day-lists _ _ c.in_range.ensures (c.if-not-in_range.false) c.lengths_keep.ensures (c.if-not-lengths_keep.false) c.if-room-ne-LONGEST_FILE.false c.judge_lists.ensures

@@ -5,36 +5,36 @@ use Rattle.day_file.specs.FileDay.{file_lengths_fit}
 use Rattle.day_file.proofs.CountLaws.{in_range}
 use Rattle.day_write.proofs.write.lengths_keep.Goals as goal
 
-pub returns-then-mins-counts : goal.returns-then-mins-counts
+pub returns-then-day-counts : goal.returns-then-day-counts
 unfolding file_lengths_fit
-returns-then-mins-counts c =
-    rw (ne_eqb _ _ c.if-mins-counts.true)
+returns-then-day-counts c =
+    rw (ne_eqb _ _ c.if-day-counts.true)
 
-pub returns-then-maxs-counts : goal.returns-then-maxs-counts
+pub returns-then-day-counts-2 : goal.returns-then-day-counts-2
 unfolding file_lengths_fit
-returns-then-maxs-counts c =
-    rw (eq-eqb _ _ c.if-mins-counts.false, ne_eqb _ _ c.if-maxs-counts.true)
+returns-then-day-counts-2 c =
+    rw (eq-eqb _ _ c.if-day-counts.false, ne_eqb _ _ c.if-day-counts-2.true)
 
-pub returns-then-optional-counts : goal.returns-then-optional-counts
+pub returns-then-day-counts-3 : goal.returns-then-day-counts-3
 unfolding file_lengths_fit
-returns-then-optional-counts c =
-    rw (eq-eqb _ _ c.if-mins-counts.false, eq-eqb _ _ c.if-maxs-counts.false, ne_eqb _ _ c.if-optional-counts.true)
+returns-then-day-counts-3 c =
+    rw (eq-eqb _ _ c.if-day-counts.false, eq-eqb _ _ c.if-day-counts-2.false, ne_eqb _ _ c.if-day-counts-3.true)
 
-pub returns-then-levels-counts : goal.returns-then-levels-counts
+pub returns-then-day-counts-4 : goal.returns-then-day-counts-4
 unfolding file_lengths_fit
-returns-then-levels-counts c =
-    rw (eq-eqb _ _ c.if-mins-counts.false, eq-eqb _ _ c.if-maxs-counts.false, eq-eqb _ _ c.if-optional-counts.false, ne_eqb _ _ c.if-levels-counts.true)
+returns-then-day-counts-4 c =
+    rw (eq-eqb _ _ c.if-day-counts.false, eq-eqb _ _ c.if-day-counts-2.false, eq-eqb _ _ c.if-day-counts-3.false, ne_eqb _ _ c.if-day-counts-4.true)
 
 pub overflow_mul-counts : goal.overflow_mul-counts
 overflow_mul-counts c =
     let h = (in_range _ c.requires).cells in record { fits = omega arith }
 
-pub returns-then-preferences-counts : goal.returns-then-preferences-counts
+pub returns-then-day-counts-5 : goal.returns-then-day-counts-5
 unfolding file_lengths_fit
-returns-then-preferences-counts c =
-    rw (eq-eqb _ _ c.if-mins-counts.false, eq-eqb _ _ c.if-maxs-counts.false, eq-eqb _ _ c.if-optional-counts.false, eq-eqb _ _ c.if-levels-counts.false, ne_eqb _ _ c.if-preferences-counts.true)
+returns-then-day-counts-5 c =
+    rw (eq-eqb _ _ c.if-day-counts.false, eq-eqb _ _ c.if-day-counts-2.false, eq-eqb _ _ c.if-day-counts-3.false, eq-eqb _ _ c.if-day-counts-4.false, ne_eqb _ _ c.if-day-counts-5.true)
 
 pub returns : goal.returns
 unfolding file_lengths_fit
 returns c =
-    rw (eq-eqb _ _ c.if-mins-counts.false, eq-eqb _ _ c.if-maxs-counts.false, eq-eqb _ _ c.if-optional-counts.false, eq-eqb _ _ c.if-levels-counts.false, eq-eqb _ _ c.if-preferences-counts.false)
+    rw (eq-eqb _ _ c.if-day-counts.false, eq-eqb _ _ c.if-day-counts-2.false, eq-eqb _ _ c.if-day-counts-3.false, eq-eqb _ _ c.if-day-counts-4.false, eq-eqb _ _ c.if-day-counts-5.false)

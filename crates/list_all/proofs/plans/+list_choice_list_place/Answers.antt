@@ -20,7 +20,7 @@ pub list_choice-list_place-requires : goal.list_choice-list_place-requires
 list_choice-list_place-requires t c =
     let s = c in
     let r = on_requires s.requires c.if-choice-plan.false (open_told _ _ _ _ _ _ s.requires.shaped.few-slots _ c.next_open-left.ensures) c.if-left-eq0.false in
-    (to_place t (length s.args.mins.now.now) s.args.choice _ _ s.decreases r.1.few s.requires.shaped.few-slots, r)
+    (to_place t (length s.args.day.now.mins.now) s.args.choice _ _ s.decreases r.1.few s.requires.shaped.few-slots, r)
 
 pub list_choice-returns : goal.list_choice-returns
 list_choice-returns t c =
@@ -29,7 +29,7 @@ list_choice-returns t c =
 pub list_place-list_choice-requires : goal.list_place-list_choice-requires
 list_place-list_choice-requires t c =
     let s = c in
-    (to_choice t (length s.args.mins.now.now) s.args.choice s.args.left s.decreases s.requires.0.walks.within s.requires.1.some, taken_requires s.args.choice s.args.left s.requires.0 s.requires.1 (place-told _ _ s.requires.1.some c.place_at-place.ensures) c.take_place.ensures.0 c.take_place.ensures.1)
+    (to_choice t (length s.args.day.now.mins.now) s.args.choice s.args.left s.decreases s.requires.0.walks.within s.requires.1.some, taken_requires s.args.choice s.args.left s.requires.0 s.requires.1 (place-told _ _ s.requires.1.some c.place_at-place.ensures) c.take_place.ensures.0 c.take_place.ensures.1)
 
 pub list_place-leave_place-requires : goal.list_place-leave_place-requires
 list_place-leave_place-requires t c =
@@ -44,7 +44,7 @@ list_place-returns-then-next-eq0 t c =
 pub list_place-list_place-requires : goal.list_place-list_place-requires
 list_place-list_place-requires t c =
     let s = c in
-    (to_next t (length s.args.mins.now.now) s.args.choice s.args.left _ s.decreases (fewer s.args.choice s.args.left s.requires.0 s.requires.1 (place-told _ _ s.requires.1.some c.place_at-place.ensures) c.take_place.ensures.0 c.take_place.ensures.1 c.list_choice.ensures c.leave_place.ensures (open_told _ _ _ _ _ _ s.requires.0.shaped.few-slots _ c.next_open-next.ensures)), rest_requires s.args.choice s.args.left s.requires.0 s.requires.1 (place-told _ _ s.requires.1.some c.place_at-place.ensures) c.take_place.ensures.0 c.take_place.ensures.1 c.list_choice.ensures c.leave_place.ensures (open_told _ _ _ _ _ _ s.requires.0.shaped.few-slots _ c.next_open-next.ensures) c.list_choice.auto.buffer c.if-next-eq0.false)
+    (to_next t (length s.args.day.now.mins.now) s.args.choice s.args.left _ s.decreases (fewer s.args.choice s.args.left s.requires.0 s.requires.1 (place-told _ _ s.requires.1.some c.place_at-place.ensures) c.take_place.ensures.0 c.take_place.ensures.1 c.list_choice.ensures c.leave_place.ensures (open_told _ _ _ _ _ _ s.requires.0.shaped.few-slots _ c.next_open-next.ensures)), rest_requires s.args.choice s.args.left s.requires.0 s.requires.1 (place-told _ _ s.requires.1.some c.place_at-place.ensures) c.take_place.ensures.0 c.take_place.ensures.1 c.list_choice.ensures c.leave_place.ensures (open_told _ _ _ _ _ _ s.requires.0.shaped.few-slots _ c.next_open-next.ensures) c.list_choice.auto.buffer c.if-next-eq0.false)
 
 pub list_place-returns : goal.list_place-returns
 list_place-returns t c =

@@ -2,10 +2,10 @@
 use Rattle.list_look.proofs.SlotLaws.{fitting-slots, fitting-all}
 use Rattle.list_look.proofs.open.fitting_places.Goals as goal
 
-pub returns-then-flag-ne1 : goal.returns-then-flag-ne1
-returns-then-flag-ne1 c =
-    fitting-slots _ _ _ _ _ _ c.fitting_slots-found.ensures c.if-flag-ne1.true
+pub returns-then-next-ne1 : goal.returns-then-next-ne1
+returns-then-next-ne1 c =
+    fitting-slots _ _ _ _ _ _ c.fitting_slots-found.ensures c.if-next-ne1.true
 
 pub returns : goal.returns
 returns c =
-    fitting-all _ _ _ _ _ _ c.fitting_slots-found.ensures c.requires c.if-flag-ne1.false c.has_place.ensures c.with_if.ensures
+    fitting-all _ _ _ _ _ _ c.fitting_slots-found.ensures c.args.next.now.few c.if-next-ne1.false c.has_place.ensures c.with_if.ensures

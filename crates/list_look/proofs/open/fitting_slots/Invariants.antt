@@ -6,4 +6,4 @@ use Rattle.list_look.proofs.open.fitting_slots.Given as goal
 
 abbrev pub invariant-loop-slot : goal.invariant-loop-slot
 invariant-loop-slot l =
-    l.found ≡ set_of l.slot (slot_fits l.choosers l.least l.slot_min l.domain)
+    l.found ≡ set_of l.slot (slot_fits l.next.choosers l.next.least l.next.sums.now.mins l.next.domain)

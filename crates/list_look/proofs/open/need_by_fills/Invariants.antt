@@ -7,4 +7,4 @@ use Rattle.list_look.proofs.open.need_by_fills.Given as goal
 
 abbrev pub invariant-loop-slot : goal.invariant-loop-slot
 invariant-loop-slot l =
-    (l.need ≤ l.slot * 65535) × (l.need ≡ need_of (entry_at l.tables) l.slot 1 l.from (lacks_at l.choosers l.slots l.slot_max))
+    (l.need ≤ l.slot * 65535) × (l.need ≡ need_of (entry_at l.tables) l.slot 1 l.from (lacks_at l.next.choosers l.next.slots l.next.sums.now.maxs))

@@ -10,7 +10,7 @@ returns-then-counts-gt24 c =
 
 pub returns-then-not-is_asked : goal.returns-then-not-is_asked
 returns-then-not-is_asked c =
-    open_unasked _ _ _ _ _ _ _ _ _ _ c.if-counts-gt24.false _ _ c.amount_of-least.ensures.0 c.flag_of-flag.ensures _ c.is_asked.ensures (c.if-not-is_asked.true) c.fitting_places.ensures
+    open_unasked _ _ _ _ _ _ _ _ _ _ c.if-counts-gt24.false _ _ c.amount_of.ensures.0 c.flag_of.ensures _ c.is_asked.ensures (c.if-not-is_asked.true) c.fitting_places.ensures
 
 pub overflow_add-from : goal.overflow_add-from
 overflow_add-from c =
@@ -22,8 +22,8 @@ weight_after-spare-requires c =
 
 pub places_left-requires : goal.places_left-requires
 places_left-requires c =
-    let m = asked_means _ _ (sym c.is_asked.ensures ∙ c.if-not-is_asked.false) in ((c.if-counts-gt24.false, (m.0, omega (arith, m.1.0, m.1.1))), c.weight_after-spare.ensures.1)
+    let m = asked_means _ _ (sym c.is_asked.ensures ∙ c.if-not-is_asked.false) in (m.0, omega (arith, m.1.0, m.1.1), c.weight_after-spare.ensures.1)
 
 pub returns : goal.returns
 returns c =
-    open_asked _ _ _ _ _ _ _ _ _ _ c.if-counts-gt24.false _ _ c.amount_of-least.ensures.0 c.flag_of-flag.ensures _ _ _ c.is_asked.ensures (c.if-not-is_asked.false) c.amount_of-most.ensures.0 c.weight_after-spare.ensures.0 c.places_left.ensures
+    open_asked _ _ _ _ _ _ _ _ _ _ c.if-counts-gt24.false _ _ c.amount_of.ensures.0 c.flag_of.ensures _ _ _ c.is_asked.ensures (c.if-not-is_asked.false) c.amount_of-2.ensures.0 c.weight_after-spare.ensures.0 c.places_left.ensures

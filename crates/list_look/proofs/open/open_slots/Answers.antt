@@ -4,22 +4,22 @@ use Rattle.base_choice_sets.proofs.SetLaws.{set-start, set-step}
 use Rattle.list_look.proofs.SlotLaws.{none_open}
 use Rattle.list_look.proofs.open.open_slots.Goals as goal
 
-pub returns-then-choosers-least : goal.returns-then-choosers-least
-returns-then-choosers-least c =
-    none_open _ _ _ _ _ _ _ _ _ _ _ c.if-choosers-least.true
+pub returns-then-next : goal.returns-then-next
+returns-then-next c =
+    none_open _ _ _ _ _ _ _ _ _ _ _ c.if-next.true
 
 pub loop-slot-init : goal.loop-slot-init
 loop-slot-init c =
     set-start _
 
-pub slot_open-inside-requires : goal.slot_open-inside-requires
-slot_open-inside-requires c =
-    (((omega (arith, c.loop-slot-test.true, c.requires.0.0.0), c.requires.0.0.1), c.requires.0.1), (c.if-choosers-least.false, c.requires.1))
+pub slot_open-requires : goal.slot_open-requires
+slot_open-requires c =
+    (omega (arith, c.loop-slot-test.true, c.args.next.now.few), c.requires.0, c.if-next.false, c.requires.1)
 
 pub loop-slot-preserved : goal.loop-slot-preserved
 loop-slot-preserved c =
-    set-step _ _ _ _ _ (omega (arith, c.loop-slot-test.true, c.requires.0.0.0)) c.loop-slot.invariant c.slot_open-inside.ensures c.with_if-found.ensures
+    set-step _ _ _ _ _ (omega (arith, c.loop-slot-test.true, c.args.next.now.few)) c.loop-slot.invariant c.slot_open.ensures c.with_if-found.ensures
 
 pub returns : goal.returns
 returns c =
-    let e : c.loop-slot.slot ≡ c.args.slots = omega (arith, c.loop-slot-test.false) in rw e at c.loop-slot.invariant
+    let e : c.loop-slot.slot ≡ c.args.next.now.slots = omega (arith, c.loop-slot-test.false) in rw e at c.loop-slot.invariant

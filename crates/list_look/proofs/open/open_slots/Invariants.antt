@@ -7,4 +7,4 @@ use Rattle.list_look.proofs.open.open_slots.Given as goal
 
 abbrev pub invariant-loop-slot : goal.invariant-loop-slot
 invariant-loop-slot l =
-    l.found ≡ set_of l.slot (slot_open (entry_at l.tables) l.choosers l.from l.slot_max l.least l.slot_min l.most l.need l.spare l.domain)
+    l.found ≡ set_of l.slot (slot_open (entry_at l.rest.tables.now) l.next.choosers l.rest.from l.next.sums.now.maxs l.next.least l.next.sums.now.mins l.next.most l.rest.need l.rest.spare l.next.domain)

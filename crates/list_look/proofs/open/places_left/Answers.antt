@@ -8,4 +8,4 @@ returns-then-need-spare c =
 
 pub returns : goal.returns
 returns c =
-    open_tight _ _ _ _ _ _ _ _ _ _ _ _ _ c.requires.0.0 c.need_by_fills-need.ensures.0 c.if-need-spare.false c.open_slots.ensures
+    open_tight _ _ _ _ _ _ _ _ _ _ _ _ _ c.args.next.now.few c.need_by_fills-need.ensures.0 c.if-need-spare.false c.open_slots.ensures

@@ -2,9 +2,9 @@
 use Rattle.list_look.proofs.SlotLaws.{open_filled, open_full, open_fitting}
 use Rattle.list_look.proofs.open.slot_open.Goals as goal
 
-pub returns-then-choosers-slot_max : goal.returns-then-choosers-slot_max
-returns-then-choosers-slot_max c =
-    open_filled _ _ _ _ _ _ _ _ _ _ _ c.requires.1.1 c.if-choosers-slot_max.true
+pub returns-then-next-slot : goal.returns-then-next-slot
+returns-then-next-slot c =
+    open_filled _ _ _ _ _ _ _ _ _ _ _ c.requires.3 c.if-next-slot.true
 
 pub returns-then-not-slot_fits : goal.returns-then-not-slot_fits
 returns-then-not-slot_fits c =

@@ -4,4 +4,4 @@ use Rattle.list_look.proofs.StepLaws.{opened-by}
 use Rattle.list_look.proofs.see.open_to.Goals as goal
 
 pub returns : goal.returns
-returns c = (opened-by _ _ _ _ _ _ _ _ _ _ _ c.counts_of-counts.ensures c.domain_of.ensures c.rows_leave-left.ensures c.open_places.ensures, refl)
+returns c = opened-by _ _ _ _ _ _ _ _ _ _ _ refl c.domain_of-domain.ensures c.rows_leave-left.ensures c.open_places.ensures

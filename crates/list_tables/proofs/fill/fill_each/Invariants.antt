@@ -4,4 +4,4 @@ use Rattle.list_tables.proofs.fill.fill_each.Given as goal
 
 abbrev pub invariant-loop-table : goal.invariant-loop-table
 invariant-loop-table l =
-    FirstFilled l.counts l.maxs l.initial.tables l.table l.tables
+    FirstFilled l.day.counts l.day.maxs.now l.initial.tables l.table l.tables

@@ -4,4 +4,4 @@ use Rattle.list_tables.proofs.fill.fill_table.Given as goal
 
 abbrev pub invariant-loop-from : goal.invariant-loop-from
 invariant-loop-from l =
-    Filling l.fn.counts l.maxs l.initial.tables l.table l.from l.tables
+    Filling l.fn.day.counts l.maxs l.initial.tables l.table l.from l.tables

@@ -1,26 +1,37 @@
 -- Each refusal, and else what the passes answer.
-use mathlib.Core.Path.{◌≡◌, refl, sym, ◌∙◌}
-use mathlib.Core.List.{[]}
-use Rattle.day_rows.proofs.Outcomes.{told-by}
-use Rattle.day_rows.specs.Told.{good}
-use Rattle.search_map.specs.Map.{map_of}
-use Rattle.search_meaning.specs.Given.{given_of}
-use Rattle.search_meaning.specs.Judged.{day_judged}
-use Rattle.search_meaning.proofs.JudgedLaws.{day-alone, lent-alone}
+use mathlib.Core.Path.{refl, sym, ◌∙◌, ap}
+use Rattle.day_rows.specs.Told.{outcome}
+use Rattle.search_meaning.specs.Given.{given_lent}
+use Rattle.search_meaning.proofs.AnswerBack.{searched-passed}
 use Rattle.search.proofs.CallSteps.{day-refused, sets-refused, sets-found, lent-refused, passes-ready, passes-answer}
 use Rattle.search.proofs.search.search.Goals as goal
 
-pub returns-in-Refused : goal.returns-in-Refused
-returns-in-Refused c = day-refused _ _ _ (c.judge_day-judged.ensures ∙ day-alone _ _ _ _ _ _ _ _ _ _ _ _) c.in-Refused.is
+pub returns-in_err-judge_day : goal.returns-in_err-judge_day
+returns-in_err-judge_day c =
+    ap (λ told. outcome told c.args.plan.now) (searched-passed _ _ c.from_residual.ensures.1) ∙ day-refused _ _ _ c.in_err-judge_day.ensures
 
-pub returns-in-Refused-lent : goal.returns-in-Refused-lent
-returns-in-Refused-lent c = let s = c in let given = given_of s.args.counts s.args.mins.now s.args.maxs.now s.args.optional.now s.args.levels.now s.args.preferences.now s.args.rows.now (map_of s.args.starts.now s.args.lengths.now s.args.numbers.now) s.args.whole.now s.args.orders.now s.args.draws.now in let d : day_judged given s.args.plan.now ≡ good = (sym (day-alone _ _ _ _ _ _ _ _ _ _ _ _) ∙ sym (told-by c.judge_day-judged.ensures c.in_default.is)) in lent-refused given s.args.settings s.args.plan.now d (sets-found given s.args.settings s.args.plan.now d _ _ refl refl c.day_counts.ensures c.analyze-analyzed.ensures c.in-Sets.is) (c.judge_lent-lent.ensures ∙ lent-alone _ _ _ _ _ _ _ _ _ _ _ []) c.in-Refused-lent.is
+pub returns-in_err-found : goal.returns-in_err-found
+returns-in_err-found c =
+    ap (λ told. outcome told c.args.plan.now) (searched-passed _ _ c.from_residual-in_err-found.ensures.1)
+    ∙ sets-refused (given_lent c.args.given.now) c.args.settings _ (sym c.in_ok-judge_day.ensures) _ _ refl refl c.sets_day-day.ensures c.in_err-found.ensures refl
+
+pub returns-in_err-judge_lent : goal.returns-in_err-judge_lent
+returns-in_err-judge_lent c =
+    let given = given_lent c.args.given.now in
+    let d = sym c.in_ok-judge_day.ensures in
+    let found = sets-found given c.args.settings c.args.plan.now d _ _ refl refl c.sets_day-day.ensures c.in_ok-found.ensures refl in
+    ap (λ told. outcome told c.args.plan.now) (searched-passed _ _ c.from_residual-in_err-judge_lent.ensures.1) ∙ lent-refused given c.args.settings c.args.plan.now d found c.in_err-judge_lent.ensures
 
 pub passes_from-requires : goal.passes_from-requires
-passes_from-requires c = let s = c in let given = given_of s.args.counts s.args.mins.now s.args.maxs.now s.args.optional.now s.args.levels.now s.args.preferences.now s.args.rows.now (map_of s.args.starts.now s.args.lengths.now s.args.numbers.now) s.args.whole.now s.args.orders.now s.args.draws.now in let d : day_judged given s.args.plan.now ≡ good = (sym (day-alone _ _ _ _ _ _ _ _ _ _ _ _) ∙ sym (told-by c.judge_day-judged.ensures c.in_default.is)) in passes-ready given s.args.settings s.args.plan.now d (sets-found given s.args.settings s.args.plan.now d _ _ refl refl c.day_counts.ensures c.analyze-analyzed.ensures c.in-Sets.is) (sym (lent-alone _ _ _ _ _ _ _ _ _ _ _ []) ∙ sym (told-by c.judge_lent-lent.ensures c.in_default-lent.is)) c.row_counts.ensures (sym c.masks-2-1.given) (sym c.set_levels-2-1.given)
+passes_from-requires c =
+    let given = given_lent c.args.given.now in
+    let d = sym c.in_ok-judge_day.ensures in
+    let found = sets-found given c.args.settings c.args.plan.now d _ _ refl refl c.sets_day-day.ensures c.in_ok-found.ensures refl in
+    passes-ready given c.args.settings c.args.plan.now d found (sym c.in_ok-judge_lent.ensures) c.plan_day.ensures (sym c.masks-2-1.given) (sym c.set_levels-2-1.given)
 
-pub returns-in-Refused-analyzed : goal.returns-in-Refused-analyzed
-returns-in-Refused-analyzed c = sets-refused _ _ _ (sym (day-alone _ _ _ _ _ _ _ _ _ _ _ _) ∙ sym (told-by c.judge_day-judged.ensures c.in_default.is)) _ _ refl refl c.day_counts.ensures c.analyze-analyzed.ensures c.in-Refused-analyzed.is
-
-pub returns-in_default-lent : goal.returns-in_default-lent
-returns-in_default-lent c = let s = c in let given = given_of s.args.counts s.args.mins.now s.args.maxs.now s.args.optional.now s.args.levels.now s.args.preferences.now s.args.rows.now (map_of s.args.starts.now s.args.lengths.now s.args.numbers.now) s.args.whole.now s.args.orders.now s.args.draws.now in let d : day_judged given s.args.plan.now ≡ good = (sym (day-alone _ _ _ _ _ _ _ _ _ _ _ _) ∙ sym (told-by c.judge_day-judged.ensures c.in_default.is)) in passes-answer given s.args.settings s.args.plan.now d (sets-found given s.args.settings s.args.plan.now d _ _ refl refl c.day_counts.ensures c.analyze-analyzed.ensures c.in-Sets.is) (sym (lent-alone _ _ _ _ _ _ _ _ _ _ _ []) ∙ sym (told-by c.judge_lent-lent.ensures c.in_default-lent.is)) c.row_counts.ensures c.start_of.ensures c.passes_from.ensures
+pub returns : goal.returns
+returns c =
+    let given = given_lent c.args.given.now in
+    let d = sym c.in_ok-judge_day.ensures in
+    let found = sets-found given c.args.settings c.args.plan.now d _ _ refl refl c.sets_day-day.ensures c.in_ok-found.ensures refl in
+    passes-answer given c.args.settings c.args.plan.now d found (sym c.in_ok-judge_lent.ensures) c.plan_day.ensures c.start_of-start.ensures c.passes_from.ensures

@@ -7,4 +7,4 @@ pub returns-in_default : goal.returns-in_default
 returns-in_default c = (omega arith, sets-refused _ _ _ _ _ _ c.requires c.level_list-listed.ensures c.in_default.is)
 
 pub returns : goal.returns
-returns c = sets-listed _ _ _ _ _ _ c.requires c.level_list-listed.ensures c.in-Sets.is
+returns c = sets-listed _ _ _ _ _ _ c.requires c.level_list-listed.ensures c.in-Ok.is

@@ -1,11 +1,18 @@
 -- Each first refusal, and else what the search answers.
-use mathlib.Core.Path.{sym}
-use Rattle.day_rows.proofs.Outcomes.{told-by}
+use mathlib.Core.Path.{sym, ◌∙◌, ap}
+use Rattle.day_rows.specs.Told.{outcome}
+use Rattle.search_meaning.proofs.AnswerBack.{searched-passed}
+use Rattle.search_meaning.proofs.Answers.{refused-says}
 use Rattle.search_day.proofs.PlanSteps.{first-refused}
 use Rattle.search_day.proofs.plan.plan_day.Goals as goal
 
-pub returns-in-Refused : goal.returns-in-Refused
-returns-in-Refused c = let s = c in (first-refused s.args.counts s.args.mins.now s.args.maxs.now s.args.optional.now s.args.levels.now s.args.preferences.now s.args.rows.now s.args.plan.now s.args.orders.now s.args.draws.now _ c.judge_first-judged.ensures c.in-Refused.is, tt)
+pub returns-in_err-judge_first : goal.returns-in_err-judge_first
+returns-in_err-judge_first c =
+    let given = c.args.given.now in (
+      ap (λ told. outcome told c.args.plan.now) (searched-passed _ _ c.from_residual.ensures.1)
+          ∙ first-refused given.counts given.mins.now given.maxs.now given.optional.now given.levels.now given.preferences.now given.rows.now given.orders.now given.draws.now c.args.plan.now _ c.in_err-judge_first.ensures,
+      refused-says _ _ _ _ _ c.from_residual.ensures.1,
+    )
 
 pub own_search-requires : goal.own_search-requires
-own_search-requires c = sym (told-by c.judge_first-judged.ensures c.in_default.is)
+own_search-requires c = sym c.in_ok-judge_first.ensures

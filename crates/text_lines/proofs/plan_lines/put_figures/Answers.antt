@@ -9,5 +9,5 @@ pub returns : goal.returns
 returns c =
     let s = c in
     put_then s.args.text.now 0 _ s.args.line.now _ refl s.requires c.put_bytes-turns_at.ensures
-    (λ f. put_then _ _ _ (number_line (ascii "turns ") s.args.used) _ (figures-is s.args.used s.args.passes s.args.limit) f c.put_number_line-passes_at.ensures
-    (λ g. put_then _ _ _ (number_line (ascii "passes ") s.args.passes) _ refl g c.put_number_line-limit_at.ensures (λ h. put-fits _ _ _ h c.put_number_line.ensures)))
+    (λ f. put_then _ _ _ (number_line (ascii "turns ") s.args.figures.turns) _ (figures-is s.args.figures.turns s.args.figures.passes s.args.figures.limit) f c.put_number_line-passes_at.ensures
+    (λ g. put_then _ _ _ (number_line (ascii "passes ") s.args.figures.passes) _ refl g c.put_number_line-limit_at.ensures (λ h. put-fits _ _ _ h c.put_number_line.ensures)))

@@ -20,25 +20,25 @@ returns-then-text-lt-LONGEST_TEXT c = found-short _ _ _ _ _ c.if-plan-gt-MOST_CH
 
 -- the whole text has room
 room : (c : Else-text-lt-LONGEST_TEXT)
-    → Fits c.args.text.now 0 (answer_text (found c.args.used c.args.passes c.args.limit c.args.plan.now))
+    → Fits c.args.text.now 0 (answer_text (found c.args.figures.turns c.args.figures.passes c.args.figures.limit c.args.plan.now))
 room c =
     let a = c.args in
-    answer-room (found a.used a.passes a.limit a.plan.now) a.text.now
+    answer-room (found a.figures.turns a.figures.passes a.figures.limit a.plan.now) a.text.now
     (record { few = c.if-plan-gt-MOST_CHOICES.false; bytes = λ choice h. let b = c.type_inv.plan choice in omega (arith, b) })
     c.if-text-lt-LONGEST_TEXT.false
 
 pub put_figures-choices_at-requires : goal.put_figures-choices_at-requires
 put_figures-choices_at-requires c =
     let a = c.args in
-    fits-first a.text.now 0 _ (ascii "result found\n" ++ figures_text a.used a.passes a.limit) _ (found-is a.used a.passes a.limit a.plan.now) (room (goal.at.put_figures-choices_at-requires c).Else-text-lt-LONGEST_TEXT)
+    fits-first a.text.now 0 _ (ascii "result found\n" ++ figures_text a.figures.turns a.figures.passes a.figures.limit) _ (found-is a.figures.turns a.figures.passes a.figures.limit a.plan.now) (room (goal.at.put_figures-choices_at-requires c).Else-text-lt-LONGEST_TEXT)
 
 pub put_choices-requires : goal.put_choices-requires
 put_choices-requires c =
     let a = c.args in
-    fits_next a.text.now 0 _ (ascii "result found\n" ++ figures_text a.used a.passes a.limit) (choice_lines 0 a.plan.now) (found-is a.used a.passes a.limit a.plan.now) (room (goal.at.put_choices-requires c).Else-text-lt-LONGEST_TEXT) c.put_figures-choices_at.ensures
+    fits_next a.text.now 0 _ (ascii "result found\n" ++ figures_text a.figures.turns a.figures.passes a.figures.limit) (choice_lines 0 a.plan.now) (found-is a.figures.turns a.figures.passes a.figures.limit a.plan.now) (room (goal.at.put_choices-requires c).Else-text-lt-LONGEST_TEXT) c.put_figures-choices_at.ensures
 
 pub returns : goal.returns
 returns c =
     let a = c.args in
-    put_some a.text.now 0 _ (room (goal.at.returns c).Else-text-lt-LONGEST_TEXT) (put_both a.text.now 0 _ (ascii "result found\n" ++ figures_text a.used a.passes a.limit) (choice_lines 0 a.plan.now) (found-is a.used a.passes a.limit a.plan.now) c.put_figures-choices_at.ensures c.put_choices.ensures)
-    ∙ found-put a.text.now a.used a.passes a.limit a.plan.now c.if-plan-gt-MOST_CHOICES.false c.if-text-lt-LONGEST_TEXT.false
+    put_some a.text.now 0 _ (room (goal.at.returns c).Else-text-lt-LONGEST_TEXT) (put_both a.text.now 0 _ (ascii "result found\n" ++ figures_text a.figures.turns a.figures.passes a.figures.limit) (choice_lines 0 a.plan.now) (found-is a.figures.turns a.figures.passes a.figures.limit a.plan.now) c.put_figures-choices_at.ensures c.put_choices.ensures)
+    ∙ found-put a.text.now a.figures.turns a.figures.passes a.figures.limit a.plan.now c.if-plan-gt-MOST_CHOICES.false c.if-text-lt-LONGEST_TEXT.false

@@ -13,11 +13,11 @@ returns-then-text-lt-LONGEST_TEXT c = whole-short _ _ c.if-text-lt-LONGEST_TEXT.
 pub put_figures-requires : goal.put_figures-requires
 put_figures-requires c =
     let a = c.args in
-    fits_as a.text.now (turns-is a.used a.passes a.limit) (answer-room (turns a.used a.passes a.limit) a.text.now tt c.if-text-lt-LONGEST_TEXT.false)
+    fits_as a.text.now (turns-is a.figures.turns a.figures.passes a.figures.limit) (answer-room (turns a.figures.turns a.figures.passes a.figures.limit) a.text.now tt c.if-text-lt-LONGEST_TEXT.false)
 
 pub returns : goal.returns
 returns c =
     let a = c.args in
-    let e = turns-is a.used a.passes a.limit in
-    put_some a.text.now 0 _ (answer-room (turns a.used a.passes a.limit) a.text.now tt c.if-text-lt-LONGEST_TEXT.false) (puts_as a.text.now e c.put_figures.ensures)
-    ∙ whole-put a.text.now (turns a.used a.passes a.limit) c.if-text-lt-LONGEST_TEXT.false
+    let e = turns-is a.figures.turns a.figures.passes a.figures.limit in
+    put_some a.text.now 0 _ (answer-room (turns a.figures.turns a.figures.passes a.figures.limit) a.text.now tt c.if-text-lt-LONGEST_TEXT.false) (puts_as a.text.now e c.put_figures.ensures)
+    ∙ whole-put a.text.now (turns a.figures.turns a.figures.passes a.figures.limit) c.if-text-lt-LONGEST_TEXT.false

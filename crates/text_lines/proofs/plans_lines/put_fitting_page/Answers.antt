@@ -11,14 +11,14 @@ put_plans-requires c =
     let a = s.args in
     let p = s.requires in
     record {
-      fact_1 = p.fact_1;
-      fact_2 = p.fact_2;
-      fact_3 = fits_then a.text.now 0 _ (number_line a.head.now a.number) _ (page-is a.head.now a.first a.number (plans_in a.count a.choices a.page.now)) p.fact_3 c.put_number_line-plans_at.ensures;
+      held = p.held;
+      numbered = p.numbered;
+      room = fits_then a.text.now 0 _ (number_line a.head.now a.number) _ (page-is a.head.now a.page.now.first a.number (plans_in a.page.now.count a.page.now.choices a.page.now.plans.now)) p.room c.put_number_line-plans_at.ensures;
     }
 
 pub returns : goal.returns
 returns c =
     let s = c in
     let a = s.args in
-    put_then a.text.now 0 _ (number_line a.head.now a.number) _ (page-is a.head.now a.first a.number (plans_in a.count a.choices a.page.now)) s.requires.fact_3 c.put_number_line-plans_at.ensures
+    put_then a.text.now 0 _ (number_line a.head.now a.number) _ (page-is a.head.now a.page.now.first a.number (plans_in a.page.now.count a.page.now.choices a.page.now.plans.now)) s.requires.room c.put_number_line-plans_at.ensures
     (λ f. c.put_plans.ensures)

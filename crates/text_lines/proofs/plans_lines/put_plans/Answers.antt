@@ -9,24 +9,24 @@ pub loop-i-init : goal.loop-i-init
 loop-i-init c =
     let a = c.args in
     let p = c.requires in
-    (p.fact_1, p.fact_2, lines_start a.first a.count a.choices a.page.now a.text.now a.at p.fact_3)
+    (p.held, p.numbered, lines_start a.page.now.first a.page.now.count a.page.now.choices a.page.now.plans.now a.text.now a.at p.room)
 
 pub overflow_mul-from : goal.overflow_mul-from
 overflow_mul-from c =
     let a = c.args in
     let l = c.loop-i in
-    let w : l.i * a.choices + a.choices ≤ length a.page.now = plan-within a.count a.choices _ l.i c.loop-i-test.true l.invariant.0 in
+    let w : l.i * a.page.now.choices + a.page.now.choices ≤ length a.page.now.plans.now = plan-within a.page.now.count a.page.now.choices _ l.i c.loop-i-test.true l.invariant.0 in
     search rules
 
-pub overflow_add-first : goal.overflow_add-first
-overflow_add-first c =
+pub overflow_add-page : goal.overflow_add-page
+overflow_add-page c =
     omega (arith, c.loop-i.invariant.1)
 
-pub overflow_add-from : goal.overflow_add-from
-overflow_add-from c =
+pub overflow_add-plan : goal.overflow_add-plan
+overflow_add-plan c =
     let a = c.args in
     let l = c.loop-i in
-    let w : l.i * a.choices + a.choices ≤ length a.page.now = plan-within a.count a.choices _ l.i c.loop-i-test.true l.invariant.0 in
+    let w : l.i * a.page.now.choices + a.page.now.choices ≤ length a.page.now.plans.now = plan-within a.page.now.count a.page.now.choices _ l.i c.loop-i-test.true l.invariant.0 in
     search rules
 
 pub put_plan-next-requires : goal.put_plan-next-requires

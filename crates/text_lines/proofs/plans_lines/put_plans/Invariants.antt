@@ -6,4 +6,4 @@ use Rattle.text_lines.proofs.plans_lines.put_plans.Given as goal
 
 abbrev pub invariant-loop-i : goal.invariant-loop-i
 invariant-loop-i l =
-    (l.count * l.choices ≤ length l.page) × (l.first + l.count < 2 ^ 64) × Lines l.first l.count l.choices l.page l.initial.text l.at l.text l.next l.i
+    (l.page.count * l.page.choices ≤ length l.page.plans.now) × (l.page.first + l.page.count < 2 ^ 64) × Lines l.page.first l.page.count l.page.choices l.page.plans.now l.initial.text l.at l.text l.next l.i
