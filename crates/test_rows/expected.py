@@ -1,7 +1,7 @@
 #!/usr/bin/env python3
-"""Writes what rows_at_limits must print, worked out from document 01's table of kinds alone.
+"""Writes what test_rows must print, worked out from document 01's table of kinds alone.
 
-    python3 crates/rows_at_limits/expected.py > crates/rows_at_limits/stdout
+    python3 crates/test_rows/expected.py > crates/test_rows/stdout
 """
 CHOICES, SLOTS, CHOOSERS = 64, 24, 200
 

@@ -2,61 +2,56 @@
 #![tactic(auto)]
 
 use day_rows::check::Counts;
-use plan_check::plan_check::{PlanChecked, check_plan};
+use day_rows::refusal::Refusal;
+use plan_check::day::Day;
+use plan_check::plan_check::check_plan;
 use std::io;
+use test_cases::days::counts_at_front;
+use test_cases::parts::after;
 use test_cases::replay::replay_all;
-use test_cases::{byte, plus, word};
+use test_cases::{byte, first, read_bytes, read_numbers, read_words};
 
-// Whether the plan check answers as the Rust did: 1 for feasible.
-fn is_answer(answer: PlanChecked, expected: u8) -> bool {
-    match answer {
-        PlanChecked::Feasible => expected == 1,
-        PlanChecked::Infeasible => expected == 0,
-        PlanChecked::Refused(_) => false,
-    }
+// Whether the plan check answers as the Rust did: 1 for feasible, 0 for infeasible.
+fn is_answer(answer: Result<bool, Refusal>, expected: u8) -> bool {
+    matches!(answer, Ok(feasible) if expected == u8::from(feasible))
 }
 
 // Whether a case with its rows read is answered as the Rust did: the other columns stand from a place on.
 fn agrees_at(bytes: &[u8], at: usize, counts: Counts, rows: &[u64]) -> bool {
     let c = counts.choices;
-    if 64 < c {
-        return false;
-    }
     let mut mins = [0u16; 64];
     let mut maxs = [0u16; 64];
     let mut optional = [0u8; 64];
     let mut plan = [0u8; 64];
-    test_cases::read_words(bytes, at, &mut mins);
-    test_cases::read_words(bytes, plus(at, 2 * c), &mut maxs);
-    test_cases::read_bytes(bytes, plus(at, 4 * c), &mut optional);
-    test_cases::read_bytes(bytes, plus(at, 5 * c), &mut plan);
-    let answer = check_plan(
+    read_words(bytes, at, &mut mins);
+    read_words(bytes, after(at, c, 2), &mut maxs);
+    read_bytes(bytes, after(at, c, 4), &mut optional);
+    read_bytes(bytes, after(at, c, 5), &mut plan);
+    let day = Day {
         counts,
-        &mins[..c],
-        &maxs[..c],
-        &optional[..c],
+        mins: first(&mins, c),
+        maxs: first(&maxs, c),
+        optional: first(&optional, c),
         rows,
-        &plan[..c],
-    );
-    is_answer(answer, byte(bytes, plus(at, 6 * c)))
+    };
+    is_answer(
+        check_plan(&day, first(&plan, c)),
+        byte(bytes, after(at, c, 6)),
+    )
 }
 
 // Whether one case is answered as the Rust did: C, S, H, the rows, the columns of the choices, the plan and
 // the answer.
 fn agrees(bytes: &[u8]) -> bool {
-    let n = word(bytes, 3) as usize;
-    if 1024 < n {
-        return false;
-    }
-    let counts = Counts {
-        choices: byte(bytes, 0) as usize,
-        slots: byte(bytes, 1) as usize,
-        choosers: byte(bytes, 2) as usize,
-        rows: n,
-    };
+    let counts = counts_at_front(bytes);
     let mut rows = [0u64; 1024];
-    test_cases::read_numbers(bytes, 5, &mut rows);
-    agrees_at(bytes, 5 + 8 * n, counts, &rows[..n])
+    read_numbers(bytes, 5, &mut rows);
+    agrees_at(
+        bytes,
+        after(5, counts.rows, 8),
+        counts,
+        first(&rows, counts.rows),
+    )
 }
 
 fn main(rt: HostRuntime) -> io::Result<()> {

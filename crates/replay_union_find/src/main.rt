@@ -2,10 +2,11 @@
 // then the record.
 #![tactic(auto)]
 
-use reduce_union_find::{Found, Grouped, UnionFind};
+use day_rows::refusal::Refusal;
+use reduce_union_find::UnionFind;
 use std::io;
 use test_cases::replay::replay_all;
-use test_cases::{byte, plus, same, word};
+use test_cases::{byte, is_filled, plus, same, word};
 
 // A union-find made by a run's joins, and whether each join answered as expected so far.
 #[derive(Clone, Copy)]
@@ -15,23 +16,21 @@ struct Run {
 }
 
 // Whether an answer of `find` or `join` is this root.
-fn is_root(found: Found, root: u8) -> bool {
-    matches!(found, Found::Root(r) if r == root as usize)
+fn is_root(found: Result<usize, Refusal>, root: u8) -> bool {
+    matches!(found, Ok(r) if r == usize::from(root))
 }
 
 // Makes one join of a run, held to the root that the Rust returned.
 fn join_one(run: Run, choices: usize, left: u8, right: u8, root: u8) -> Run {
-    let state = run.state;
-    let answer = state.join(choices, left as usize, right as usize);
-    let found = answer.found;
-    let agrees = is_root(found, root);
-    let next = answer.state;
     if !run.agrees {
         return run;
     }
+    let joined = run
+        .state
+        .join(choices, usize::from(left), usize::from(right));
     Run {
-        state: next,
-        agrees,
+        state: joined.state,
+        agrees: is_root(joined.found, root),
     }
 }
 
@@ -63,11 +62,8 @@ fn roots_agree(bytes: &[u8], at: usize, choices: usize, state: UnionFind) -> boo
 
 // Whether one group, in the pool from start to end, is the one whose size and members stand from a place on.
 fn group_agrees(bytes: &[u8], at: usize, members: &[u8], start: usize, end: usize) -> bool {
-    let size = byte(bytes, at) as usize;
-    if end != plus(start, size) {
-        return false;
-    }
-    same(members, start, bytes, plus(at, 1), size)
+    let size = usize::from(byte(bytes, at));
+    end == plus(start, size) && same(members, start, bytes, plus(at, 1), size)
 }
 
 // Whether the groups are those that stand from a place on, one after another.
@@ -75,73 +71,47 @@ fn members_agree(bytes: &[u8], from: usize, count: usize, members: &[u8], ends: 
     let mut at = from;
     let mut start = 0;
     for g in 0..count {
-        let end = byte(ends, g) as usize;
+        let end = usize::from(byte(ends, g));
         if !group_agrees(bytes, at, members, start, end) {
             return false;
         }
-        at = plus(plus(at, 1), byte(bytes, at) as usize);
+        at = plus(plus(at, 1), usize::from(byte(bytes, at)));
         start = end;
     }
     true
 }
 
-// Whether both pools are zero past their results.
-fn rest_is_zero(choices: usize, count: usize, members: &[u8], ends: &[u8]) -> bool {
-    let zeros = [0u8; 64];
-    if !same(members, choices, &zeros, 0, 64) {
-        return false;
-    }
-    same(ends, count, &zeros, 0, 64)
-}
-
-// Whether the call `groups` answers what stands from a place on.
+// Whether the call `groups` answers what stands from a place on, with both pools zero past it.
 fn groups_agree(bytes: &[u8], at: usize, choices: usize, state: UnionFind) -> bool {
     let mut members = [9u8; 64];
     let mut ends = [9u8; 64];
-    let grouped = state.groups(choices, &mut members, &mut ends);
-    match grouped {
-        Grouped::Groups(count) => {
-            if byte(bytes, at) as usize != count {
-                return false;
-            }
-            if !rest_is_zero(choices, count, &members, &ends) {
-                return false;
-            }
-            members_agree(bytes, plus(at, 1), count, &members, &ends)
-        }
-        Grouped::Refused(_) => false,
-    }
+    let Ok(count) = state.groups(choices, &mut members, &mut ends) else {
+        return false;
+    };
+    usize::from(byte(bytes, at)) == count
+        && is_filled(&members, choices, 0)
+        && is_filled(&ends, count, 0)
+        && members_agree(bytes, plus(at, 1), count, &members, &ends)
 }
 
 // Whether the parents and the heights of the elements are those that stand from a place on.
 fn entries_agree(bytes: &[u8], at: usize, choices: usize, state: UnionFind) -> bool {
-    let parents = state.parents;
-    let heights = state.heights;
-    if !same(&parents, 0, bytes, at, choices) {
-        return false;
-    }
-    same(&heights, 0, bytes, plus(at, choices), choices)
+    same(&state.parents, 0, bytes, at, choices)
+        && same(&state.heights, 0, bytes, plus(at, choices), choices)
 }
 
 // Whether one run is the Rust's: joins, roots, groups and entries.
 fn agrees(bytes: &[u8]) -> bool {
-    let choices = byte(bytes, 0) as usize;
-    let joins = word(bytes, 1) as usize;
+    let choices = usize::from(byte(bytes, 0));
+    let joins = usize::from(word(bytes, 1));
     let run = join_all(bytes, choices, joins, 3 + 2 * joins);
-    if !run.agrees {
-        return false;
-    }
-    let state = run.state;
     let roots = 3 + 3 * joins;
-    if !roots_agree(bytes, roots, choices, state) {
-        return false;
-    }
     let groups = plus(roots, choices);
-    if !groups_agree(bytes, groups, choices, state) {
-        return false;
-    }
-    let entries = plus(plus(groups, choices), 1 + byte(bytes, groups) as usize);
-    entries_agree(bytes, entries, choices, state)
+    let entries = plus(plus(groups, choices), 1 + usize::from(byte(bytes, groups)));
+    run.agrees
+        && roots_agree(bytes, roots, choices, run.state)
+        && groups_agree(bytes, groups, choices, run.state)
+        && entries_agree(bytes, entries, choices, run.state)
 }
 
 fn main(rt: HostRuntime) -> io::Result<()> {

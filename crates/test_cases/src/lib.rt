@@ -13,6 +13,7 @@ use std::fs::{File, Files};
 use std::io::Read;
 use std::{fs, io};
 
+pub mod days;
 pub mod parts;
 pub mod replay;
 pub mod texts;

@@ -3,7 +3,7 @@
 // code.
 #![tactic(auto)]
 
-use day_rows::check::{Checked, Counts, Takes, check_rows};
+use day_rows::check::{Counts, Takes, check_rows};
 use day_rows::kind::Kind;
 use day_rows::op::Op;
 use day_rows::refusal::Refusal;
@@ -18,173 +18,157 @@ const EXTRAS: [u16; 13] = [
     0, 1, 32764, 32765, 32766, 32767, 32768, 32769, 32770, 32771, 32772, 65534, 65535,
 ];
 
-// Prints a text.
-fn text(rt: &impl Print, bytes: &[u8]) -> io::Result<()> {
-    rt.write_all(bytes)
+// The columns of a row beside its kind.
+#[derive(Clone, Copy, PartialEq, Eq)]
+enum Column {
+    Left,
+    Right,
+    Extra,
 }
 
-// Ends a line.
-fn new_line(rt: &impl Print) -> io::Result<()> {
-    text(rt, b"\n")
-}
+// All the columns.
+const COLUMNS: [Column; 3] = [Column::Left, Column::Right, Column::Extra];
 
-// Prints a number in decimal.
-fn number(rt: &impl Print, n: u64) -> io::Result<()> {
-    rt.print(n)
-}
+// All the ways in which a call takes rows.
+const TAKES: [Takes; 3] = [Takes::Given, Takes::Scheduling, Takes::Assignment];
 
 // Prints an extra column as the signed number that it stands for.
 fn signed(rt: &impl Print, extra: u16) -> io::Result<()> {
     if extra < Row::NO_EXTRA {
-        text(rt, b"-")?;
-        number(rt, (Row::NO_EXTRA - extra) as u64)
+        rt.write_all(b"-")?;
+        rt.print(Row::NO_EXTRA - extra)
     } else {
-        number(rt, (extra - Row::NO_EXTRA) as u64)
-    }
-}
-
-// Which rows a call takes, by a number.
-fn takes_of(i: usize) -> Takes {
-    match i {
-        0 => Takes::Given,
-        1 => Takes::Scheduling,
-        _ => Takes::Assignment,
+        rt.print(extra - Row::NO_EXTRA)
     }
 }
 
 // Prints which rows a call takes.
-fn takes_text(rt: &impl Print, i: usize) -> io::Result<()> {
-    match i {
-        0 => text(rt, b"all"),
-        1 => text(rt, b"scheduling"),
-        _ => text(rt, b"assignment"),
+fn takes_text(rt: &impl Print, takes: Takes) -> io::Result<()> {
+    match takes {
+        Takes::Given => rt.write_all(b"all"),
+        Takes::Scheduling => rt.write_all(b"scheduling"),
+        Takes::Assignment => rt.write_all(b"assignment"),
     }
 }
 
 // Prints an answer: `=good`, or `=` with the number and, for 5, the row.
-fn answer_text(rt: &impl Print, answer: Checked) -> io::Result<()> {
+fn answer_text(rt: &impl Print, answer: Result<(), Refusal>) -> io::Result<()> {
     match answer {
-        Checked::Good => text(rt, b"=good"),
-        Checked::Refused(refusal) => {
-            text(rt, b"=")?;
-            number(rt, refusal.number() as u64)?;
-            row_text(rt, refusal)
+        Ok(()) => rt.write_all(b"=good"),
+        Err(why) => {
+            rt.write_all(b"=")?;
+            rt.print(u8::from(why))?;
+            row_text(rt, why)
         }
     }
 }
 
 // Prints the row that 5 carries.
-fn row_text(rt: &impl Print, refusal: Refusal) -> io::Result<()> {
-    if let Refusal::Row(row) = refusal {
-        text(rt, b" row ")?;
-        number(rt, row as u64)?;
+fn row_text(rt: &impl Print, why: Refusal) -> io::Result<()> {
+    if let Refusal::Row(row) = why {
+        print!(rt; " row {row}")?;
     }
     Ok(())
 }
 
 // A row that each call takes.
-fn good_row(takes: usize) -> u64 {
-    let kind = if takes == 2 {
+fn good_row(takes: Takes) -> u64 {
+    let kind = if takes == Takes::Assignment {
         Kind::CHOICES_HAVE_SAME_CHOOSERS
     } else {
         Kind::CHOICE_IS_IN_SLOT
     };
-    let row = Row {
-        kind,
-        left: 0,
-        right: 0,
-        extra: Row::NO_EXTRA,
-    };
-    row.number()
+    u64::from(plain_row(kind))
 }
 
-// The row of a kind with one column set and the others as the kind allows.
-fn probe(kind: u16, column: usize, value: u16) -> u64 {
+// A row of a kind with zeros in its columns.
+fn plain_row(kind: u16) -> Row {
     let extra = if kind == Kind::SLOT_HAS_LIMITED_SIZE {
         Op::EQ
     } else {
         Row::NO_EXTRA
     };
-    let row = match column {
-        0 => Row {
-            kind,
-            left: value,
-            right: 0,
-            extra,
-        },
-        1 => Row {
-            kind,
-            left: 0,
+    Row {
+        kind,
+        left: 0,
+        right: 0,
+        extra,
+    }
+}
+
+// The row of a kind with one column set and the others as the kind allows.
+fn probe(kind: u16, column: Column, value: u16) -> u64 {
+    let row = plain_row(kind);
+    u64::from(match column {
+        Column::Left => Row { left: value, ..row },
+        Column::Right => Row {
             right: value,
-            extra,
+            ..row
         },
-        _ => Row {
-            kind,
-            left: 0,
-            right: 0,
+        Column::Extra => Row {
             extra: value,
+            ..row
         },
-    };
-    row.number()
+    })
 }
 
 // Prints a column's name.
-fn column_text(rt: &impl Print, column: usize) -> io::Result<()> {
+fn column_text(rt: &impl Print, column: Column) -> io::Result<()> {
     match column {
-        0 => text(rt, b" left"),
-        1 => text(rt, b" right"),
-        _ => text(rt, b" extra"),
+        Column::Left => rt.write_all(b" left"),
+        Column::Right => rt.write_all(b" right"),
+        Column::Extra => rt.write_all(b" extra"),
     }
 }
 
 // The values that a column is set to.
-fn values_of(column: usize) -> [u16; 13] {
-    if column == 2 { EXTRAS } else { NUMBERS }
+fn values_of(column: Column) -> [u16; 13] {
+    if column == Column::Extra {
+        EXTRAS
+    } else {
+        NUMBERS
+    }
 }
 
 // Prints the value that a column is set to.
-fn value_text(rt: &impl Print, column: usize, value: u16) -> io::Result<()> {
-    text(rt, b" ")?;
-    if column == 2 {
+fn value_text(rt: &impl Print, column: Column, value: u16) -> io::Result<()> {
+    rt.write_all(b" ")?;
+    if column == Column::Extra {
         signed(rt, value)
     } else {
-        number(rt, value as u64)
+        rt.print(value)
     }
 }
 
 // Prints the answer for one value of one column, in the second row of two.
 fn answer_at(
     rt: &impl Print,
-    takes: usize,
+    takes: Takes,
     kind: u16,
-    column: usize,
+    column: Column,
     value: u16,
 ) -> io::Result<()> {
     let rows = [good_row(takes), probe(kind, column, value)];
-    answer_text(
-        rt,
-        check_rows(counts_of(64, 24, 200, 2), takes_of(takes), &rows),
-    )
+    answer_text(rt, check_rows(counts_of(64, 24, 200, 2), takes, &rows))
 }
 
 // Prints a line: one column of one kind at all its values.
-fn line(rt: &impl Print, takes: usize, kind: u16, column: usize) -> io::Result<()> {
+fn line(rt: &impl Print, takes: Takes, kind: u16, column: Column) -> io::Result<()> {
     takes_text(rt, takes)?;
-    text(rt, b" kind ")?;
-    number(rt, kind as u64)?;
+    print!(rt; " kind {kind}")?;
     column_text(rt, column)?;
     let values = values_of(column);
     for value in &values {
         value_text(rt, column, *value)?;
         answer_at(rt, takes, kind, column, *value)?;
     }
-    new_line(rt)
+    rt.write_all(b"\n")
 }
 
 // Prints a line for counts and a length: how many of the good rows are lent is a number of its own.
 fn counted(
     rt: &impl Print,
-    takes: usize,
+    takes: Takes,
     counts: Counts,
     lent: usize,
     rows: &[u64],
@@ -194,24 +178,21 @@ fn counted(
     }
     let part = &rows[..lent];
     counts_text(rt, takes, counts)?;
-    number(rt, lent as u64)?;
-    text(rt, b" ")?;
-    answer_text(rt, check_rows(counts, takes_of(takes), part))?;
-    new_line(rt)
+    print!(rt; " lent {lent} ")?;
+    answer_text(rt, check_rows(counts, takes, part))?;
+    rt.write_all(b"\n")
 }
 
 // Prints the counts of a line.
-fn counts_text(rt: &impl Print, takes: usize, counts: Counts) -> io::Result<()> {
+fn counts_text(rt: &impl Print, takes: Takes, counts: Counts) -> io::Result<()> {
+    let Counts {
+        choices,
+        slots,
+        choosers,
+        rows,
+    } = counts;
     takes_text(rt, takes)?;
-    text(rt, b" choices ")?;
-    number(rt, counts.choices as u64)?;
-    text(rt, b" slots ")?;
-    number(rt, counts.slots as u64)?;
-    text(rt, b" choosers ")?;
-    number(rt, counts.choosers as u64)?;
-    text(rt, b" rows ")?;
-    number(rt, counts.rows as u64)?;
-    text(rt, b" lent ")
+    print!(rt; " choices {choices} slots {slots} choosers {choosers} rows {rows}")
 }
 
 // Counts by their four numbers.
@@ -225,7 +206,7 @@ fn counts_of(choices: usize, slots: usize, choosers: usize, rows: usize) -> Coun
 }
 
 // Prints the lines of each count at its limit and one over.
-fn counts_at_limits(rt: &impl Print, takes: usize, rows: &[u64]) -> io::Result<()> {
+fn counts_at_limits(rt: &impl Print, takes: Takes, rows: &[u64]) -> io::Result<()> {
     counted(rt, takes, counts_of(64, 24, 200, 2), 2, rows)?;
     counted(rt, takes, counts_of(65, 24, 200, 2), 2, rows)?;
     counted(rt, takes, counts_of(64, 25, 200, 2), 2, rows)?;
@@ -233,7 +214,7 @@ fn counts_at_limits(rt: &impl Print, takes: usize, rows: &[u64]) -> io::Result<(
 }
 
 // Prints the lines of the rows at their limit and one over.
-fn rows_at_limit(rt: &impl Print, takes: usize, most: usize, rows: &[u64]) -> io::Result<()> {
+fn rows_at_limit(rt: &impl Print, takes: Takes, most: usize, rows: &[u64]) -> io::Result<()> {
     counted(rt, takes, counts_of(64, 24, 200, most), most, rows)?;
     if most < 1025 {
         counted(rt, takes, counts_of(64, 24, 200, most + 1), most + 1, rows)?;
@@ -242,7 +223,7 @@ fn rows_at_limit(rt: &impl Print, takes: usize, most: usize, rows: &[u64]) -> io
 }
 
 // Prints the lines of a length that isn't the count's: 1 before 2, and 2 before 5.
-fn lengths_apart(rt: &impl Print, takes: usize, rows: &[u64]) -> io::Result<()> {
+fn lengths_apart(rt: &impl Print, takes: Takes, rows: &[u64]) -> io::Result<()> {
     counted(rt, takes, counts_of(64, 24, 200, 2), 1, rows)?;
     counted(rt, takes, counts_of(64, 24, 200, 2), 3, rows)?;
     counted(rt, takes, counts_of(65, 24, 200, 2), 3, rows)?;
@@ -252,7 +233,7 @@ fn lengths_apart(rt: &impl Print, takes: usize, rows: &[u64]) -> io::Result<()> 
 }
 
 // Prints the lines of counts and lengths for the rows that a call takes.
-fn limits(rt: &impl Print, takes: usize, most: usize) -> io::Result<()> {
+fn limits(rt: &impl Print, takes: Takes, most: usize) -> io::Result<()> {
     let rows = [good_row(takes); 1025];
     counts_at_limits(rt, takes, &rows)?;
     rows_at_limit(rt, takes, most, &rows)?;
@@ -260,14 +241,14 @@ fn limits(rt: &impl Print, takes: usize, most: usize) -> io::Result<()> {
 }
 
 fn main(rt: HostRuntime) -> io::Result<()> {
-    for takes in 0..3usize {
+    for takes in &TAKES {
         for kind in 0..18u16 {
-            line(&rt, takes, kind, 0)?;
-            line(&rt, takes, kind, 1)?;
-            line(&rt, takes, kind, 2)?;
+            for column in &COLUMNS {
+                line(&rt, *takes, kind, *column)?;
+            }
         }
     }
-    limits(&rt, 0, 128)?;
-    limits(&rt, 1, 1024)?;
-    limits(&rt, 2, 1024)
+    limits(&rt, Takes::Given, 128)?;
+    limits(&rt, Takes::Scheduling, 1024)?;
+    limits(&rt, Takes::Assignment, 1024)
 }

@@ -9,6 +9,7 @@ use borrow.Author.Tests.{le-leb, lt-leb, leb-true, eq-eqb}
 use lib.Dec.{leb}
 use lib.ListN.{length, take, replicate, length-replicate}
 use lib.Seq.{take_at}
+use Rattle.std.specs.Prelude.{Result, Ok, Err}
 use Rattle.base_lists.specs.All.{all_at_most}
 use Rattle.base_lists.specs.Pool.{pad}
 use Rattle.base_lists.proofs.Below.{and_left, and_right}
@@ -16,7 +17,7 @@ use Rattle.base_lists.proofs.Flat.{length-list}
 use Rattle.base_lists.proofs.Pad.{length-pad}
 use Rattle.day_rows.specs.Check.{counts_in_range}
 use Rattle.day_rows.specs.Refusal.{number_of, carried_by}
-use Rattle.day_rows.specs.Told.{done, refused, Verdict, good, unless, Outcome, outcome, judged}
+use Rattle.day_rows.specs.Told.{tells, done, refused, Verdict, good, unless, Outcome, outcome, judged}
 use Rattle.day_rows.specs.declared.check.Counts.{Counts}
 use Rattle.day_rows.specs.declared.check.Takes.TheVariants as takes
 use Rattle.day_rows.specs.declared.refusal.Refusal.{Refusal}
@@ -25,10 +26,8 @@ use Rattle.day_rows.proofs.ToldLaws.{done-is, refused-not-done, refused_as, unle
 use Rattle.day_rows.specs.Levels.{levels_in_range, levels_rise, last_level}
 use Rattle.day_file.specs.FileDay.{Parts, parts, row_counts, file_counts_in_range, day_rows_judged, pools_full, lengths_full, padded}
 use Rattle.day_file.specs.File.{counts_in, lists_in, day_in, longest_file}
-use Rattle.day_file.specs.Calls.{body_judged, file_judged, read_tells, read_of}
+use Rattle.day_file.specs.Calls.{body_judged, file_judged, read_of}
 use Rattle.day_file.specs.declared.counts.FileCounts.{FileCounts}
-use Rattle.day_file.specs.declared.read.Read.{Read}
-use Rattle.day_file.specs.declared.read.Read.TheVariants as read
 use Rattle.day_file.proofs.ReadLaws.{good-head}
 use Rattle.day_file.proofs.DayLaws.{good_body}
 use Rattle.text_day.specs.Prepared.{judged_to, reduced_to, prepared_of}
@@ -163,12 +162,12 @@ zeros-full =
     let choices = sym (length-replicate {A = ℕ} 64 0) in
     pools-full (replicate 64 0) (replicate 64 0) (replicate 64 0) (replicate 64 0) (replicate 12800 0) (replicate 128 0) choices choices choices choices (sym (length-replicate {A = ℕ} 12800 0)) (sym (length-replicate {A = ℕ} 128 0))
 
-module _ (file : List ℕ) (pools : Parts) (full : pools_full pools ≡ true) {result : Read} {pools' : Parts} (e : outcome (read_tells result) pools' ≡ read_of file pools) where
-  pub day_case : {counts : FileCounts} → result ≡ read.Day counts → FileRead file counts pools'
-  day_case t = read-filled file pools full (ap (λ (r : Read). outcome (read_tells r) pools') (sym t) ∙ e)
+module _ (file : List ℕ) (pools : Parts) (full : pools_full pools ≡ true) {result : Result FileCounts Refusal} {pools' : Parts} (e : outcome (tells result) pools' ≡ read_of file pools) where
+  pub day_case : {counts : FileCounts} → result ≡ Ok counts → FileRead file counts pools'
+  day_case t = read-filled file pools full (ap (λ (r : Result FileCounts Refusal). outcome (tells r) pools') (sym t) ∙ e)
 
-  pub refused_case : {why : Refusal} → result ≡ read.Refused why → file_judged file ≡ refused (number_of why) (carried_by why)
-  refused_case t = read-refused file pools full (ap (λ (r : Read). outcome (read_tells r) pools') (sym t) ∙ e)
+  pub refused_case : {why : Refusal} → result ≡ Err why → file_judged file ≡ refused (number_of why) (carried_by why)
+  refused_case t = read-refused file pools full (ap (λ (r : Result FileCounts Refusal). outcome (tells r) pools') (sym t) ∙ e)
 
 -- what is lent of a filled pool: as much as the list is long
 module _ (n size : ℕ) (l pool : List ℕ) (e : length l ≡ n) (few : n ≤ size) (p : pool ≡ pad size l) where

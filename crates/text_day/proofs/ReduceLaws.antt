@@ -8,19 +8,18 @@ use borrow.Author.Tests.{leb-true, eq-eqb}
 use lib.Dec.{leb}
 use lib.ListN.{length, take, replicate, length-append, length-replicate}
 use lib.Seq.{take_at}
+use Rattle.std.specs.Prelude.{Result, Ok, Err}
 use Rattle.base_lists.specs.Pool.{pad}
 use Rattle.base_lists.proofs.Pad.{length-pad}
 use Rattle.base_lists.proofs.Sorted.{length_unique}
 use Rattle.day_rows.specs.Refusal.{number_of}
-use Rattle.day_rows.specs.Told.{done, refused, refuse, Outcome, outcome}
+use Rattle.day_rows.specs.Told.{tells, done, refused, refuse, Outcome, outcome}
 use Rattle.day_rows.proofs.ToldLaws.{done-is, refused-not-done, refused-number}
 use Rattle.day_rows.specs.declared.check.Counts.{Counts}
 use Rattle.day_rows.specs.declared.refusal.Refusal.{Refusal}
 use Rattle.reduce_turn.specs.Turn.{clash_of}
-use Rattle.reduce.specs.Reduction.{expanded, reduced_rows, search_list, roster_list, reduced_tells, reduction_of, reduce_of}
+use Rattle.reduce.specs.Reduction.{expanded, reduced_rows, search_list, roster_list, reduction_of, reduce_of}
 use Rattle.reduce.specs.declared.Reduction.{Reduction}
-use Rattle.reduce.specs.declared.Reduced.{Reduced}
-use Rattle.reduce.specs.declared.Reduced.TheVariants as reduced_case
 use Rattle.reduce.proofs.Lists.{result_lists}
 use Rattle.text_day.specs.Prepared.{ready, clash, reduced_to}
 use Rattle.text_day.specs.Prepared as prepared
@@ -119,12 +118,12 @@ module _ (counts : Counts) (mins maxs optional rows : List ℕ) (g : FileGiven c
 
   -- ---- the call as the text's maker makes it
 
-  module _ {result : Reduced} (pool : List ℕ) (long : 1024 ≡ length pool) {pool' : List ℕ} (e : outcome (reduced_tells result) pool' ≡ reduce_of counts rows pool) where
-    pub rows_case : {reduction : Reduction} → result ≡ reduced_case.Rows reduction → Reduces reduction.count reduction.clash pool'
-    rows_case t = reduced-rows pool (sym long) (ap (λ (r : Reduced). outcome (reduced_tells r) pool') (sym t) ∙ e)
+  module _ {result : Result Reduction Refusal} (pool : List ℕ) (long : 1024 ≡ length pool) {pool' : List ℕ} (e : outcome (tells result) pool' ≡ reduce_of counts rows pool) where
+    pub rows_case : {reduction : Reduction} → result ≡ Ok reduction → Reduces reduction.count reduction.clash pool'
+    rows_case t = reduced-rows pool (sym long) (ap (λ (r : Result Reduction Refusal). outcome (tells r) pool') (sym t) ∙ e)
 
-    pub refused_case : {why : Refusal} → result ≡ reduced_case.Refused why → prepared.refused (number_of why) ≡ reduced_to counts rows
-    refused_case t = reduced_refused pool (sym long) (ap (λ (r : Reduced). outcome (reduced_tells r) pool') (sym t) ∙ e)
+    pub refused_case : {why : Refusal} → result ≡ Err why → prepared.refused (number_of why) ≡ reduced_to counts rows
+    refused_case t = reduced_refused pool (sym long) (ap (λ (r : Result Reduction Refusal). outcome (tells r) pool') (sym t) ∙ e)
 
   -- the search's rows, as many as were counted
   module _ {count : ℕ} {clashes : Bool} {pool : List ℕ} (r : Reduces count clashes pool) {searches : ℕ} (e : searches ≡ length (search_list (take count pool))) where

@@ -1,16 +1,18 @@
 -- The search's part of a reduction: how many rows it has, and that the listing takes it.
-use mathlib.Core.Path.{◌≡◌, refl, sym, ◌∙◌, ap}
+use mathlib.Core.Path.{◌≡◌, refl, sym, ◌∙◌}
 use mathlib.Core.Bool.{Bool, true, false, ◌&&◌, cond}
 use mathlib.Core.List.{List, [], ◌∷◌, Memᴰ}
 use mathlib.Core.Logic.{⊎_elim}
 use Prim.Native.Nat.{ℕ, zero, suc, ◌+◌, ◌≤◌, ◌<◌}
 use native.Mathlib.Omega.{arith}
-use borrow.Author.Tests.{le-leb, lt-leb, leb-true}
+use borrow.Author.Tests.{leb-true}
 use lib.Dec.{leb}
-use lib.ListN.{length, get_or, drop, length-append, drop_of_length-le}
+use lib.ListN.{length, get_or}
+use Rattle.std.specs.List.{count_by}
+use Rattle.std.proofs.lemmas.List.Recursion.{is_count_by}
 use Rattle.base_lists.specs.Keep.{keep}
 use Rattle.base_lists.proofs.Below.{and_left, and_right}
-use Rattle.base_lists.proofs.Keep.{drop-at-place, keep_append, kept_in}
+use Rattle.base_lists.proofs.Keep.{kept_in}
 use Rattle.day_rows.specs.Check.{counts_in_range, column_holds, row_keeps, rows_judged}
 use Rattle.day_rows.specs.Kinds.{columns_of}
 use Rattle.day_rows.specs.Row.{row_of}
@@ -20,7 +22,6 @@ use Rattle.day_rows.specs.declared.check.Takes.TheVariants as takes
 use Rattle.day_rows.specs.Told.{good}
 use Rattle.day_rows.specs.declared.table.Name.{Name}
 use Rattle.day_rows.specs.declared.table.Name.TheVariants as name
-use Rattle.day_rows.specs.declared.row.Row.{Row}
 use Rattle.day_rows.proofs.KeptLaws.{kept, keeps, each-good}
 use Rattle.day_rows.proofs.KindLaws.{takes_assignment}
 use Rattle.reduce_turn.specs.Turn.{kind_of}
@@ -30,31 +31,16 @@ use Rattle.text_day.specs.Prepared.{with_rows}
 
 -- ---- the count
 
-module _ (number : ℕ) {row : Row} (e : row ≡ row_of number) where
-  kind-is : row.kind ≡ kind_of number
-  kind-is = ap (λ (r : Row). r.kind) e
-
-  -- a row of no kind, of a higher kind, and of kinds 1 to 6
-  pub none-low : row.kind < 1 → 0 ≡ length (search_list (number ∷ []))
-  unfolding search_list keep
-  none-low h = rw (lt-leb 1 (kind_of number) (rw (sym kind-is) h))
-
-  pub none-high : 1 ≤ row.kind → 6 < row.kind → 0 ≡ length (search_list (number ∷ []))
-  unfolding search_list keep
-  none-high l h = rw (le-leb 1 (kind_of number) (rw (sym kind-is) l), lt-leb (kind_of number) 6 (rw (sym kind-is) h))
-
-  pub one-searched : 1 ≤ row.kind → row.kind ≤ 6 → 1 ≡ length (search_list (number ∷ []))
-  unfolding search_list keep
-  one-searched l h = rw (le-leb 1 (kind_of number) (rw (sym kind-is) l), le-leb (kind_of number) 6 (rw (sym kind-is) h))
-
--- the rows from a place on: the one there, and the rest
-pub search-on : (rows : List ℕ) (i : ℕ) → i < length rows → length (search_list (drop i rows)) ≡ length (search_list (get_or rows i 0 ∷ [])) + length (search_list (drop (i + 1) rows))
-unfolding search_list
-search-on rows i h =
-    let p : (ℕ → Bool) = λ number. leb 1 (kind_of number) && leb (kind_of number) 6 in
-    ap (λ (l : List ℕ). length (keep p l)) (drop-at-place rows i 0 h)
-    ∙ ap length (keep_append p (get_or rows i 0 ∷ []) (drop (i + 1) rows))
-    ∙ length-append (keep p (get_or rows i 0 ∷ [])) (keep p (drop (i + 1) rows))
+-- the length of the search's list is the library's count of its rows
+pub searched-counted : (rows : List ℕ) → length (search_list rows) ≡ count_by (λ number. leb 1 (kind_of number) && leb (kind_of number) 6) rows
+unfolding search_list keep
+searched-counted =
+    is_count_by (λ rows. length (search_list rows)) (λ number. leb 1 (kind_of number) && leb (kind_of number) 6) refl
+    λ number rows. go number (search_list rows) (leb 1 (kind_of number) && leb (kind_of number) 6)
+  where
+    go : (number : ℕ) (rows : List ℕ) (b : Bool) → length (cond b (number ∷ rows) rows) ≡ cond b (1 + length rows) (length rows)
+    go number rows true = omega arith
+    go number rows false = refl
 
 -- a list has no more of them than it has rows
 pub search-few : (rows : List ℕ) → length (search_list rows) ≤ length rows
@@ -65,11 +51,6 @@ search-few (number ∷ rows) = go (leb 1 (kind_of number) && leb (kind_of number
     go : (b : Bool) → length (search_list rows) ≤ length rows → length (cond b (number ∷ search_list rows) (search_list rows)) ≤ suc (length rows)
     go true h = omega (arith, h)
     go false h = omega (arith, h)
-
--- nothing is left
-pub search-done : (rows : List ℕ) (i : ℕ) → length rows ≤ i → length (search_list (drop i rows)) ≡ 0
-unfolding search_list keep
-search-done rows i h = rw (drop_of_length-le rows {i = i} h)
 
 -- ---- the rows of the search's list keep the table, whatever the count of rows
 

@@ -11,5 +11,5 @@ use text_lines::put::put_refused;
 pub fn put_refusal(text: &mut [u8], why: Refusal) -> usize
     ensures { pool text.new result ≡ put_at text.old 0 (refused_text (number_of why)) }
 {
-    put_refused(text, why.number() as u64)
+    put_refused(text, u64::from(u8::from(why)))
 }

@@ -1,0 +1,53 @@
+// What records of days share: the counts at their front, how they write a refusal, and a page of a day's
+// plans.
+use super::{byte, plus, word};
+use day_rows::check::Counts;
+use day_rows::refusal::Refusal;
+
+// C, S and H, a byte each, and the number of rows, at a record's front.
+pub fn counts_at_front(bytes: &[u8]) -> Counts {
+    Counts {
+        choices: usize::from(byte(bytes, 0)),
+        slots: usize::from(byte(bytes, 1)),
+        choosers: usize::from(byte(bytes, 2)),
+        rows: usize::from(word(bytes, 3)),
+    }
+}
+
+// A refusal as a record tells it: 01's number, and the row that it carries, 0 where it carries none.
+#[derive(Clone, Copy, PartialEq, Eq)]
+pub struct Told {
+    pub number: u8,
+    pub row: u64,
+}
+
+// A refusal by what records tell of it.
+pub fn told_of(why: Refusal) -> Told {
+    let row = match why {
+        Refusal::Row(row) => row as u64,
+        _ => 0,
+    };
+    Told {
+        number: u8::from(why),
+        row,
+    }
+}
+
+// The number of a refusal whose byte is 100 more, apart from an answer's other bytes.
+pub fn told_number(written: u8) -> u8 {
+    written.wrapping_sub(100)
+}
+
+// Whether a refusal stands at a place: its number with 100 more, and the row in two bytes.
+pub fn is_refusal(bytes: &[u8], at: usize, why: Refusal) -> bool {
+    let told = Told {
+        number: told_number(byte(bytes, at)),
+        row: u64::from(word(bytes, plus(at, 1))),
+    };
+    told_of(why) == told
+}
+
+// How many plans a page from the first number on holds.
+pub fn on_page(total: u64, first: u64, room: u64) -> u64 {
+    total.saturating_sub(first).min(room)
+}
