@@ -15,7 +15,7 @@ use day_rows::check::Counts;
 use day_write::write::write_day;
 use reduce::reduce;
 use thalluscrest_figures::crossing::put;
-use thalluscrest_figures::day::InPool;
+use thalluscrest_figures::day::put_reduced;
 
 // Reads a day file into pools lent at their full limits.
 #[unsafe(no_mangle)]
@@ -104,6 +104,5 @@ pub extern "C" fn thalluscrest_reduce(
         rows: rows.len(),
     };
     let reduced = reduce(counts, rows, pool);
-    let crossing = reduced.map(|reduction| InPool { reduction, pool });
-    put(crossing, figures)
+    put_reduced(reduced, pool, figures)
 }

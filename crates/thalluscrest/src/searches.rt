@@ -10,7 +10,7 @@ ghost use Rattle.search_meaning.specs.Given.{given_of};
 ghost use Rattle.thalluscrest.specs.Counts.{search_counts_of, plan_counts_of};
 
 use search::search::search;
-use search_day::given::PlanGiven;
+use search_day::given::{PlanCounts, PlanGiven};
 use search_day::plan::plan_day;
 use search_day::settings::PlanSettings;
 use search_map::map::Map;
