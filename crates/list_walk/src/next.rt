@@ -1,15 +1,16 @@
 // The next place of a choice: the first that its domain has of those that are left.
 ghost use Rattle.std.specs.Prelude.{◌≡◌, ◌+◌, ◌-◌, ◌≤◌, length, take, drop, slice_index_or};
 ghost use Rattle.std.specs.Int.Count.{count_trailing_zeros};
-ghost use Rattle.list_nodes.specs.steps.Walk.{slots_of, counts_of};
+ghost use Rattle.plan_check.specs.Day.{day_lent};
 ghost use Rattle.list_decided.specs.steps.Decided.{front_of};
 ghost use Rattle.list_look.specs.steps.Look.{opened_at};
 ghost use Rattle.list_walk.specs.steps.Sight.{next_within};
 
 use list_decided::last::front_of;
+use list_look::open::SlotSums;
 use list_look::see::open_to;
-use list_starts::full::SLOTS;
 use list_tables::shape::TABLES;
+use plan_check::day::Day;
 
 // How many places are left from a set's first member on, of so many that begin with the set's place 0; 0 if
 // none of them is in the set.
@@ -43,10 +44,10 @@ pub fn first_in(slots: usize, domain: u64) -> usize
 }
 
 // How many places are left from the next open one on, after the place with so many left; 0 if there is none.
-pub fn next_after(asked: &[usize; 6], places: u64, left: usize) -> usize
-    ensures { result ≡ next_within (slots_of asked.now) places (left - 1) }
+pub fn next_after(slots: usize, places: u64, left: usize) -> usize
+    ensures { result ≡ next_within slots places (left - 1) }
 {
-    next_open(asked[SLOTS], places, left.saturating_sub(1))
+    next_open(slots, places, left.saturating_sub(1))
 }
 
 // A list without its first so many rows; none are left of a shorter one.
@@ -70,36 +71,28 @@ pub struct Opened {
 
 // What is open to the next choice, by the domains as the walk sees them.
 pub fn open_next(
-    asked: &[usize; 6],
-    mins: &[u16],
-    maxs: &[u16],
-    optional: &[u8],
-    rows: &[u64],
+    day: &Day,
     tables: &[u16; TABLES],
     choice: usize,
-    plan: &mut [u8],
-    slot_min: &[usize; 24],
-    slot_max: &[usize; 24],
+    plan: &[u8],
+    sums: &SlotSums,
     domains: &[u64; 64],
 ) -> Opened
-    ensures { let slots = slots_of asked.now in
-        let front = front_of slots choice rows.now in
-        let decided = take front rows.now in
+    ensures { let day = day_lent day.now in
+        let slots = day.counts.slots in
+        let front = front_of slots choice day.rows in
+        let decided = take front day.rows in
         let domain = slice_index_or domains.now choice 0 in
-        let places = opened_at (counts_of asked.now) mins.now maxs.now
-        optional.now decided tables.now plan.old choice slot_min.now
-        slot_max.now domain in
+        let places = opened_at day.counts day.mins day.maxs day.optional decided tables.now plan.now choice
+        sums.now.mins sums.now.maxs domain in
         (result.front ≡ front)
-        × ((result.front ≤ length rows.now)
+        × ((result.front ≤ length day.rows)
         × ((result.places ≡ places)
-        × ((result.left ≡ next_within slots result.places (slots + 1))
-        × (plan.new ≡ plan.old)))) }
+        × (result.left ≡ next_within slots result.places (slots + 1)))) }
 {
-    let slots = asked[SLOTS];
-    let front = front_of(slots, choice, rows);
-    let places = open_to(
-        asked, mins, maxs, optional, rows, tables, choice, front, plan, slot_min, slot_max, domains,
-    );
+    let slots = day.counts.slots;
+    let front = front_of(slots, choice, day.rows);
+    let places = open_to(day, tables, choice, front, plan, sums, domains);
     let left = first_in(slots, places);
     Opened {
         front,

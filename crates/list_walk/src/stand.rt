@@ -2,15 +2,16 @@
 // are open after it.
 ghost use Rattle.std.specs.Prelude.{◌≡◌, not, ◌&&◌, take, ◌==◌};
 ghost use Rattle.base_choice_sets.specs.Sets.{has, set_of};
-ghost use Rattle.list_nodes.specs.steps.Walk.{slots_of, counts_of};
+ghost use Rattle.plan_check.specs.Day.{day_lent};
 ghost use Rattle.list_twins.specs.steps.Twins.{twins_of};
 ghost use Rattle.list_walk.specs.steps.Sight.{still_open};
 ghost use Rattle.list_walk.specs.steps.Stand.{put_at, added_at, taken_at, Taken, LeftPlace};
 
+use list_look::open::SlotSums;
 use list_look::see::near_end;
-use list_starts::full::{CHOICES, SLOTS, counts_of};
 use list_starts::places::{amount_of, place_at};
 use list_twins::twins::twins_of;
+use plan_check::day::Day;
 use plan_check::plan::OMITTED;
 
 // Where a choice stands, and the minimum and the maximum that it brings there.
@@ -66,42 +67,33 @@ fn take_at(slots: usize, place: usize, amount: usize, sums: &mut [usize; 24])
 
 // The choice takes the place with so many left, itself among them; the answer is what leave_place needs.
 pub fn take_place(
-    asked: &[usize; 6],
-    mins: &&[u16],
-    maxs: &&[u16],
+    day: &Day,
     choice: usize,
     left: usize,
-    plan: &mut &mut [u8],
-    slot_min: &mut [usize; 24],
-    slot_max: &mut [usize; 24],
+    plan: &mut [u8],
+    sums: &mut SlotSums,
 ) -> Stood
-    ensures { Taken (slots_of asked.now) choice left mins.now.now maxs.now.now
-        plan.old.now plan.new.now slot_min.old slot_min.new
-        slot_max.old slot_max.new result.place result.least result.most }
+    ensures { let day = day_lent day.now in
+        Taken day.counts.slots choice left day.mins day.maxs plan.old plan.new
+        sums.old.mins sums.new.mins sums.old.maxs sums.new.maxs result.place result.least result.most }
 {
-    let slots = asked[SLOTS];
+    let slots = day.counts.slots;
     let place = place_at(slots, left);
-    let least = amount_of(*mins, choice);
-    let most = amount_of(*maxs, choice);
-    put_place(slots, choice, place, *plan);
-    add_at(slots, place, least, slot_min);
-    add_at(slots, place, most, slot_max);
+    let least = amount_of(day.mins, choice);
+    let most = amount_of(day.maxs, choice);
+    put_place(slots, choice, place, plan);
+    add_at(slots, place, least, &mut sums.mins);
+    add_at(slots, place, most, &mut sums.maxs);
     Stood { place, least, most }
 }
 
 // The choice leaves its place: the sums are as they were before it took it.
-pub fn leave_place(
-    asked: &[usize; 6],
-    stood: Stood,
-    slot_min: &mut [usize; 24],
-    slot_max: &mut [usize; 24],
-)
-    ensures { LeftPlace (slots_of asked.now) stood.place stood.least stood.most
-        slot_min.old slot_min.new slot_max.old slot_max.new }
+pub fn leave_place(slots: usize, stood: Stood, sums: &mut SlotSums)
+    ensures { LeftPlace slots stood.place stood.least stood.most
+        sums.old.mins sums.new.mins sums.old.maxs sums.new.maxs }
 {
-    let slots = asked[SLOTS];
-    take_at(slots, stood.place, stood.least, slot_min);
-    take_at(slots, stood.place, stood.most, slot_max);
+    take_at(slots, stood.place, stood.least, &mut sums.mins);
+    take_at(slots, stood.place, stood.most, &mut sums.maxs);
 }
 
 // Whether no plan was met, by how many had been met before and how many have by now.
@@ -120,58 +112,42 @@ fn without(places: u64, others: u64) -> u64
 
 // A choice's places without the twins of one of them.
 fn without_twins(
-    asked: &[usize; 6],
-    rows: &[u64],
+    day: &Day,
     choice: usize,
-    plan: &mut [u8],
+    plan: &[u8],
     place: usize,
     places: u64,
-    slot_min: &[usize; 24],
-    slot_max: &[usize; 24],
+    sums: &SlotSums,
 ) -> u64
-    ensures { let start = take choice plan.old in
-        let twins = twins_of (counts_of asked.now) start rows.now slot_min.now
-        slot_max.now place in
-        (result ≡ set_of 64 (λ later. has places later && not (has twins later)))
-        × (plan.new ≡ plan.old) }
+    ensures { let day = day_lent day.now in
+        let start = take choice plan.now in
+        let twins = twins_of day.counts start day.rows sums.now.mins sums.now.maxs place in
+        result ≡ set_of 64 (λ later. has places later && not (has twins later)) }
 {
-    let twins = twins_of(
-        counts_of(asked),
-        rows,
-        choice,
-        plan,
-        slot_min,
-        slot_max,
-        place,
-    );
+    let twins = twins_of(day, choice, plan, &sums.mins, &sums.maxs, place);
     without(places, twins)
 }
 
 // What is still open of a choice's places once it has stood at one of them: every place if a plan was met
 // there, else not its twins. Near the end no twins are looked for.
 pub fn pass_over(
-    asked: &[usize; 6],
-    rows: &&[u64],
+    day: &Day,
     choice: usize,
-    plan: &mut &mut [u8],
+    plan: &[u8],
     place: usize,
     unmet: bool,
     places: u64,
-    slot_min: &[usize; 24],
-    slot_max: &[usize; 24],
+    sums: &SlotSums,
 ) -> u64
-    ensures { let start = take choice plan.old.now in
-        let still = still_open (counts_of asked.now) choice start rows.now.now
-        slot_min.now slot_max.now place unmet places in
-        (result ≡ still) × (plan.new.now ≡ plan.old.now) }
+    ensures { let day = day_lent day.now in
+        let start = take choice plan.now in
+        result ≡ still_open day.counts choice start day.rows sums.now.mins sums.now.maxs place unmet places }
 {
     if !unmet {
         return places;
     }
-    if near_end(asked[CHOICES], choice) {
+    if near_end(day.counts.choices, choice) {
         return places;
     }
-    without_twins(
-        asked, *rows, choice, *plan, place, places, slot_min, slot_max,
-    )
+    without_twins(day, choice, plan, place, places, sums)
 }

@@ -1,7 +1,7 @@
 // The walk itself, in request 03's form: each choice tries its places, and each place goes on to the next
-// choice. A slice is copied at each call, a reference to it isn't; the buffer alone can't be had behind one.
+// choice.
 ghost use Rattle.std.specs.Prelude.{◌+◌, ◌-◌, true, length, take};
-ghost use Rattle.list_nodes.specs.steps.Walk.{first_of, room_of, day_asked};
+ghost use Rattle.plan_check.specs.Day.{day_lent};
 ghost use Rattle.list_nodes.specs.steps.Run.{standing};
 ghost use Rattle.list_walk.specs.steps.Sight.{events_from, events_seen, events_left};
 ghost use Rattle.list_walk.specs.steps.Walks.{WalkReady, Walked, Takes};
@@ -9,18 +9,18 @@ ghost use Rattle.list_walk.specs.steps.Walks.{WalkReady, Walked, Takes};
 use super::next::{next_after, open_next, rows_after};
 use super::stand::{leave_place, none_met, pass_over, take_place};
 use list_look::look::look_ahead;
+use list_look::open::SlotSums;
 use list_look::see::near_end;
+use list_starts::asked::Asked;
 use list_starts::full::list_full;
-use list_starts::ready::goes_on;
+use list_starts::page_end::goes_on;
 use list_tables::shape::TABLES;
+use plan_check::day::Day;
 
-// What is the same at every call: the numbers asked, the day without its rows, and the tables.
+// What is the same at every call: the page asked for, and the tables.
 #[derive(Clone, Copy)]
 pub(crate) struct Given<'a> {
-    pub asked: &'a [usize; 6],
-    pub mins: &'a [u16],
-    pub maxs: &'a [u16],
-    pub optional: &'a [u8],
+    pub asked: &'a Asked,
     pub tables: &'a [u16; TABLES],
 }
 
@@ -29,58 +29,42 @@ pub(crate) struct Given<'a> {
 #[cycle(walk_choice_walk_open_walk_place)]
 pub(crate) fn walk_choice(
     given: &Given,
-    rows: &&[u64],
+    day: &Day,
     domains: &[u64; 64],
     choice: usize,
-    plan: &mut &mut [u8],
-    slot_min: &mut [usize; 24],
-    slot_max: &mut [usize; 24],
+    plan: &mut [u8],
+    sums: &mut SlotSums,
     turns: &mut u64,
     met: &mut u64,
     buffer: &mut [u8],
 ) -> bool
-    requires { let g = given.now in
-        let day = day_asked g.asked.now g.mins.now g.maxs.now g.optional.now rows.now.now in
-        WalkReady day (first_of g.asked.now) (room_of g.asked.now) choice choice
-        plan.old.now slot_min.old slot_max.old turns.old met.old buffer.old }
-    ensures { let g = given.now in
-        let day = day_asked g.asked.now g.mins.now g.maxs.now g.optional.now rows.now.now in
-        let choices-left = length plan.old.now - choice in
-        let start = take choice plan.old.now in
-        let events = events_from day g.tables.now choices-left start
-        slot_min.old slot_max.old domains.now in
+    requires { let page = given.now.asked.now in
+        WalkReady (day_lent day.now) page.first page.room choice choice
+        plan.old sums.old.mins sums.old.maxs turns.old met.old buffer.old }
+    ensures { let page = given.now.asked.now in
+        let choices-left = length plan.old - choice in
+        let start = take choice plan.old in
+        let events = events_from (day_lent day.now) given.now.tables.now choices-left start
+        sums.old.mins sums.old.maxs domains.now in
         let before = standing true turns.old met.old buffer.old in
         let after = standing result turns.new met.new buffer.new in
-        Walked (first_of g.asked.now) (room_of g.asked.now) choice events
-        plan.old.now plan.new.now slot_min.old slot_min.new
-        slot_max.old slot_max.new before after }
+        Walked page.first page.room choice events
+        plan.old plan.new sums.old.mins sums.new.mins
+        sums.old.maxs sums.new.maxs before after }
 {
     if *turns == 0 {
         return false;
     }
     *turns -= 1;
     if choice == plan.len() {
-        list_full(given.asked, *rows, slot_max, *plan, met, buffer);
+        list_full(day, given.asked, &sums.maxs, plan, met, buffer);
         return goes_on(given.asked, *met);
     }
     if near_end(plan.len(), choice) {
-        return walk_open(
-            given, rows, domains, choice, plan, slot_min, slot_max, turns, met, buffer,
-        );
+        return walk_open(given, day, domains, choice, plan, sums, turns, met, buffer);
     }
-    let seen = look_ahead(
-        given.asked,
-        given.mins,
-        given.maxs,
-        *rows,
-        given.tables,
-        choice,
-        *plan,
-        domains,
-    );
-    walk_open(
-        given, rows, &seen, choice, plan, slot_min, slot_max, turns, met, buffer,
-    )
+    let seen = look_ahead(day, given.tables, choice, plan, domains);
+    walk_open(given, day, &seen, choice, plan, sums, turns, met, buffer)
 }
 
 // The places of a start that are open: its choice takes them one after the other; the rows that it decides
@@ -88,49 +72,35 @@ pub(crate) fn walk_choice(
 #[cycle(walk_choice_walk_open_walk_place)]
 fn walk_open(
     given: &Given,
-    rows: &&[u64],
+    day: &Day,
     domains: &[u64; 64],
     choice: usize,
-    plan: &mut &mut [u8],
-    slot_min: &mut [usize; 24],
-    slot_max: &mut [usize; 24],
+    plan: &mut [u8],
+    sums: &mut SlotSums,
     turns: &mut u64,
     met: &mut u64,
     buffer: &mut [u8],
 ) -> bool
-    requires { let g = given.now in
-        let day = day_asked g.asked.now g.mins.now g.maxs.now g.optional.now rows.now.now in
-        WalkReady day (first_of g.asked.now) (room_of g.asked.now) (choice + 1) choice
-        plan.old.now slot_min.old slot_max.old turns.old met.old buffer.old }
-    ensures { let g = given.now in
-        let day = day_asked g.asked.now g.mins.now g.maxs.now g.optional.now rows.now.now in
-        let choices-left = length plan.old.now - (choice + 1) in
-        let start = take choice plan.old.now in
-        let events = events_seen day g.tables.now choices-left start
-        slot_min.old slot_max.old domains.now in
+    requires { let page = given.now.asked.now in
+        WalkReady (day_lent day.now) page.first page.room (choice + 1) choice
+        plan.old sums.old.mins sums.old.maxs turns.old met.old buffer.old }
+    ensures { let page = given.now.asked.now in
+        let choices-left = length plan.old - (choice + 1) in
+        let start = take choice plan.old in
+        let events = events_seen (day_lent day.now) given.now.tables.now choices-left start
+        sums.old.mins sums.old.maxs domains.now in
         let before = standing true turns.old met.old buffer.old in
         let after = standing result turns.new met.new buffer.new in
-        Walked (first_of g.asked.now) (room_of g.asked.now) choice events
-        plan.old.now plan.new.now slot_min.old slot_min.new
-        slot_max.old slot_max.new before after }
+        Walked page.first page.room choice events
+        plan.old plan.new sums.old.mins sums.new.mins
+        sums.old.maxs sums.new.maxs before after }
 {
-    let opened = open_next(
-        given.asked,
-        given.mins,
-        given.maxs,
-        given.optional,
-        *rows,
-        given.tables,
-        choice,
-        *plan,
-        slot_min,
-        slot_max,
-        domains,
-    );
+    let opened = open_next(day, given.tables, choice, plan, sums, domains);
     if opened.left == 0 {
         return true;
     }
-    let after = rows_after(*rows, opened.front);
+    let rows = rows_after(day.rows, opened.front);
+    let after = Day { rows, ..*day };
     walk_place(
         given,
         &after,
@@ -139,8 +109,7 @@ fn walk_open(
         opened.places,
         opened.left,
         plan,
-        slot_min,
-        slot_max,
+        sums,
         turns,
         met,
         buffer,
@@ -152,80 +121,57 @@ fn walk_open(
 #[cycle(walk_choice_walk_open_walk_place)]
 fn walk_place(
     given: &Given,
-    rows: &&[u64],
+    day: &Day,
     domains: &[u64; 64],
     choice: usize,
     places: u64,
     left: usize,
-    plan: &mut &mut [u8],
-    slot_min: &mut [usize; 24],
-    slot_max: &mut [usize; 24],
+    plan: &mut [u8],
+    sums: &mut SlotSums,
     turns: &mut u64,
     met: &mut u64,
     buffer: &mut [u8],
 ) -> bool
-    requires { let g = given.now in
-        let day = day_asked g.asked.now g.mins.now g.maxs.now g.optional.now rows.now.now in
-        WalkReady day (first_of g.asked.now) (room_of g.asked.now) (choice + 1) choice
-        plan.old.now slot_min.old slot_max.old turns.old met.old buffer.old
-        × Takes day choice places left slot_min.old }
-    ensures { let g = given.now in
-        let day = day_asked g.asked.now g.mins.now g.maxs.now g.optional.now rows.now.now in
-        let choices-left = length plan.old.now - (choice + 1) in
-        let start = take choice plan.old.now in
-        let events = events_left day g.tables.now choices-left start
-        slot_min.old slot_max.old domains.now places left in
+    requires { let page = given.now.asked.now in
+        WalkReady (day_lent day.now) page.first page.room (choice + 1) choice
+        plan.old sums.old.mins sums.old.maxs turns.old met.old buffer.old
+        × Takes (day_lent day.now) choice places left sums.old.mins }
+    ensures { let page = given.now.asked.now in
+        let choices-left = length plan.old - (choice + 1) in
+        let start = take choice plan.old in
+        let events = events_left (day_lent day.now) given.now.tables.now choices-left start
+        sums.old.mins sums.old.maxs domains.now places left in
         let before = standing true turns.old met.old buffer.old in
         let after = standing result turns.new met.new buffer.new in
-        Walked (first_of g.asked.now) (room_of g.asked.now) choice events
-        plan.old.now plan.new.now slot_min.old slot_min.new
-        slot_max.old slot_max.new before after }
+        Walked page.first page.room choice events
+        plan.old plan.new sums.old.mins sums.new.mins
+        sums.old.maxs sums.new.maxs before after }
 {
     let before = *met;
-    let stood = take_place(
-        given.asked,
-        &given.mins,
-        &given.maxs,
-        choice,
-        left,
-        plan,
-        slot_min,
-        slot_max,
-    );
+    let stood = take_place(day, choice, left, plan, sums);
     let place = stood.place;
     let going = walk_choice(
         given,
-        rows,
+        day,
         domains,
         choice + 1,
         plan,
-        slot_min,
-        slot_max,
+        sums,
         turns,
         met,
         buffer,
     );
-    leave_place(given.asked, stood, slot_min, slot_max);
+    leave_place(day.counts.slots, stood, sums);
     if !going {
         return false;
     }
     let unmet = none_met(before, *met);
-    let still = pass_over(
-        given.asked,
-        rows,
-        choice,
-        plan,
-        place,
-        unmet,
-        places,
-        slot_min,
-        slot_max,
-    );
-    let next = next_after(given.asked, still, left);
+    let still = pass_over(day, choice, plan, place, unmet, places, sums);
+    let next = next_after(day.counts.slots, still, left);
     if next == 0 {
         return true;
     }
     walk_place(
-        given, rows, domains, choice, still, next, plan, slot_min, slot_max, turns, met, buffer,
+        given, day, domains, choice, still, next, plan, sums, turns, met, buffer,
     )
 }

@@ -1,7 +1,5 @@
 -- The walk may not start, or it walks.
-use Rattle.std.proofs.Common.{get_or, sym, ◌∙◌}
-use Rattle.plan_check.specs.Day.{day_of}
-use Rattle.list_nodes.specs.steps.Walk.{counts_of}
+use Rattle.std.proofs.Common.{sym, ◌∙◌}
 use Rattle.list_starts.proofs.ReadyLaws.{ready_means, walked-not, walked-ready}
 use Rattle.list_walk.proofs.all.walk_all.Goals as goal
 
@@ -10,8 +8,7 @@ returns-then-not-is_ready c = walked-not _ _ _ _ _ _ (sym c.is_ready.ensures ∙
 
 pub walk_ready-requires : goal.walk_ready-requires
 walk_ready-requires c =
-    let s = c in
-    ready_means (day_of (counts_of s.args.asked.now) s.args.mins.now s.args.maxs.now s.args.optional.now s.args.rows.now) (get_or s.args.asked.now 4 0) (get_or s.args.asked.now 5 0) s.args.turns.now s.args.met.now s.args.buffer.now (sym c.is_ready.ensures ∙ c.if-not-is_ready.false)
+    ready_means _ _ _ _ _ _ (sym c.is_ready.ensures ∙ c.if-not-is_ready.false)
 
 pub returns : goal.returns
 returns c =

@@ -5,4 +5,4 @@ use Rattle.list_walk.proofs.next.open_next.Goals as goal
 pub returns : goal.returns
 returns c =
     let f = c.front_of-front.ensures in
-    (f.0, (f.1, (opened-front _ _ _ _ _ _ _ _ _ _ _ f.0 c.open_to-places.ensures.0, (c.first_in-left.ensures, c.open_to-places.ensures.1))))
+    (f.0, (f.1, (opened-front _ _ _ _ _ _ _ _ _ _ _ f.0 c.open_to-places.ensures, c.first_in-left.ensures)))

@@ -5,4 +5,4 @@ use Rattle.list_walk.proofs.stand.without_twins.Goals as goal
 
 pub returns : goal.returns
 returns c =
-    (twins_away _ _ _ _ _ _ _ c.counts_of.ensures c.twins_of-twins.ensures c.without.ensures, refl)
+    twins_away _ _ _ _ _ _ _ refl c.twins_of-twins.ensures c.without.ensures
