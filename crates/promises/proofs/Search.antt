@@ -11,7 +11,7 @@ use Rattle.search_meaning.specs.Demand.{starts_of, turns_that_settle, SuchPlan, 
 use Rattle.search_meaning.specs.declared.settings.Settings.{Settings}
 use Rattle.search_meaning.proofs.DemandHolds.{good_such, not-refused, demand}
 use Rattle.search_day.specs.Planning.{given_own, plan_day_of}
-use Rattle.search_day.specs.declared.plan.PlanCounts.{PlanCounts}
+use Rattle.search_day.specs.declared.given.PlanCounts.{PlanCounts}
 use Rattle.text_plan.proofs.DayMeans.{called, call_settles}
 use Rattle.promises.specs.Promises.{PlanOf, SearchSettles}
 use Rattle.promises.proofs.Plans.{plan_of, of_plan}

@@ -23,7 +23,8 @@ use Rattle.day_file.specs.File.{counts_in, day_in, longest_file}
 use Rattle.day_file.specs.Calls.{file_judged}
 use Rattle.search_rules.specs.Turns.{sum_of_powers}
 use Rattle.search_meaning.specs.Given.{plan_day}
-use Rattle.search_meaning.specs.Calls.{Figures, Settled, plan, no_plan, out_of_turns, figures}
+use Rattle.search_meaning.specs.Calls.{Settled, plan, no_plan, out_of_turns, figures}
+use Rattle.search_meaning.specs.declared.answer.Figures.{Figures}
 use Rattle.search_meaning.specs.Demand.{starts_of, turns_that_settle}
 use Rattle.search_day.specs.Planning.{plan_day_of}
 use Rattle.text_lines.specs.Text.{ascii, number_line, clash_text, refused_text}

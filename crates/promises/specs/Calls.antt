@@ -3,35 +3,33 @@
 use Rattle.std.specs.Prelude.{◌≡◌, ◌⊎◌, ℕ, ◌+◌, ◌-◌, ◌≤◌, ◌<◌, min, length, take}
 use mathlib.Core.List.{List, flatten}
 use Rattle.std.proofs.lemmas.List.Edits.{sets}
-use Rattle.day_rows.specs.Check.{checked_tells, check_of}
-use Rattle.day_rows.specs.Told.{Told, done, refused, Outcome, outcome}
+use Rattle.day_rows.specs.Check.{check_of}
+use Rattle.day_rows.specs.Told.{Told, done, refused, tells, Outcome, outcome}
 use Rattle.day_rows.specs.declared.check.Counts.{Counts}
 use Rattle.day_rows.specs.declared.check.Takes.{Takes}
-use Rattle.reduce.specs.Reduction.{reduced_tells, reduce_of}
+use Rattle.reduce.specs.Reduction.{reduce_of}
 use Rattle.plan_check.specs.Day.{Day}
-use Rattle.plan_check.specs.Check.{plan_checked_tells, plan_check_of}
+use Rattle.plan_check.specs.Check.{plan_check_of}
 use Rattle.sets_analysis.specs.SetsDay.{SetsDay}
-use Rattle.sets_analysis.specs.Calls.{Pools, analyzed_tells, analysis_of}
+use Rattle.sets_analysis.specs.Calls.{Pools, analysis_of}
 use Rattle.sets_analysis.specs.declared.analysis.Analysis.{Analysis}
 use Rattle.sets_levels.specs.Calls.{level_list_of}
-use Rattle.sets_levels.specs.Calls as level
 use Rattle.search_map.specs.Map.{Map}
-use Rattle.search_map.specs.Calls.{mapped_tells, own_map_of}
+use Rattle.search_map.specs.Calls.{own_map_of}
 use Rattle.search_meaning.specs.Given.{Given}
 use Rattle.search_meaning.specs.Calls.{searched_tells, search_of}
 use Rattle.search_meaning.specs.declared.settings.Settings.{Settings}
 use Rattle.search_day.specs.Planning.{plan_day_of}
-use Rattle.search_day.specs.declared.plan.PlanCounts.{PlanCounts}
+use Rattle.search_day.specs.declared.given.PlanCounts.{PlanCounts}
 use Rattle.roster_check.specs.Sheet.{Sheet}
-use Rattle.roster_check.specs.Check.{roster_tells, roster_check_of}
+use Rattle.roster_check.specs.Check.{roster_check_of}
 use Rattle.day_file.specs.FileDay.{Parts, FileDay}
-use Rattle.day_file.specs.Calls.{read_tells, read_of}
-use Rattle.day_write.specs.Calls.{written_tells, write_of}
+use Rattle.day_file.specs.Calls.{read_of}
+use Rattle.day_write.specs.Calls.{write_of}
 use Rattle.list_nodes.specs.Placements.{page, total, nodes}
 use Rattle.list_nodes.specs.Page.{PageTold, ended_told, goes_on_told, turns_told}
 use Rattle.list_all.specs.Outcome.{plans_told, listed_tells, list_of}
 use Rattle.list_all.specs.Outcome as all
-use Rattle.text_day.specs.Made.{made_tells}
 use Rattle.text_plan.specs.Calls.{text_of}
 
 -- what a call hands back tells that it is done, or one of 01's numbers; and no two outcomes, the answer and
@@ -48,28 +46,28 @@ alone told = outcome told tt
 
 -- the calls, on any input; `list_page` (below) and `plans_text` are settled but for when turns run out
 pub record CallsAreSettled : Type 0 where
-  pub read-day : (file : List ℕ) (pools : Parts) → IsSettled read_tells (read_of file pools)
-  pub write_day : (day : FileDay) (pool : List ℕ) → IsSettled written_tells (write_of day pool)
+  pub read-day : (file : List ℕ) (pools : Parts) → IsSettled tells (read_of file pools)
+  pub write_day : (day : FileDay) (pool : List ℕ) → IsSettled tells (write_of day pool)
   pub check-rows : (counts : Counts) (takes : Takes) (rows : List ℕ)
-      → IsSettled checked_tells (alone (check_of counts takes rows))
-  pub reduce : (counts : Counts) (rows pool : List ℕ) → IsSettled reduced_tells (reduce_of counts rows pool)
-  pub check-plan : (day : Day) (plan : List ℕ) → IsSettled plan_checked_tells (alone (plan_check_of day plan))
+      → IsSettled tells (alone (check_of counts takes rows))
+  pub reduce : (counts : Counts) (rows pool : List ℕ) → IsSettled tells (reduce_of counts rows pool)
+  pub check-plan : (day : Day) (plan : List ℕ) → IsSettled tells (alone (plan_check_of day plan))
   pub analyze : (day : SetsDay) (mode : Analysis) (lent : Pools)
-      → IsSettled analyzed_tells (analysis_of day mode lent)
+      → IsSettled tells (analysis_of day mode lent)
   pub level-list : (levels : List ℕ) (count : ℕ) (lent : Pools) (limit : ℕ) (pool : List ℕ)
-      → IsSettled level.listed_tells (level_list_of levels count lent limit pool)
+      → IsSettled tells (level_list_of levels count lent limit pool)
   pub own-map : (counts : Counts) (rows : List ℕ) (pools : Map)
-      → IsSettled mapped_tells (own_map_of counts rows pools)
+      → IsSettled tells (own_map_of counts rows pools)
   pub search : (given : Given) (settings : Settings) (plan : List ℕ)
       → IsSettled searched_tells (search_of given settings plan)
   pub plan-day : (counts : PlanCounts) (mins maxs optional levels preferences rows orders draws : List ℕ)
       (settings : Settings) (plan : List ℕ)
       → IsSettled searched_tells
       (plan_day_of counts mins maxs optional levels preferences rows orders draws settings plan)
-  pub check-roster : (sheet : Sheet) → IsSettled roster_tells (alone (roster_check_of sheet))
+  pub check-roster : (sheet : Sheet) → IsSettled tells (alone (roster_check_of sheet))
   pub list-plans : (day : Day) (first room budget : ℕ) (buffer : List ℕ)
       → IsSettled listed_tells (list_of day first room budget buffer)
-  pub plan-text : (file pool : List ℕ) → IsSettled made_tells (text_of file pool)
+  pub plan-text : (file pool : List ℕ) → IsSettled tells (text_of file pool)
 
 module _ (day : Day) (first room budget : ℕ) (buffer : List ℕ) where
   -- the buffer with the first so many plans of the page at its front

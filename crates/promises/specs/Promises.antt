@@ -19,11 +19,12 @@ use Rattle.plan_check.specs.Day.{Day}
 use Rattle.plan_check.specs.Plan.{slot_of, sum_in}
 use Rattle.plan_check.specs.Check.{plan_check_of}
 use Rattle.search_meaning.specs.Given.{Given, plan_day}
-use Rattle.search_meaning.specs.Calls.{Figures, Settled, plan, no_plan, out_of_turns, search_of}
+use Rattle.search_meaning.specs.Calls.{Settled, plan, no_plan, out_of_turns, search_of}
 use Rattle.search_meaning.specs.Demand.{OwnMap}
+use Rattle.search_meaning.specs.declared.answer.Figures.{Figures}
 use Rattle.search_meaning.specs.declared.settings.Settings.{Settings}
 use Rattle.search_day.specs.Planning.{given_own, plan_day_of}
-use Rattle.search_day.specs.declared.plan.PlanCounts.{PlanCounts}
+use Rattle.search_day.specs.declared.given.PlanCounts.{PlanCounts}
 use Rattle.day_file.specs.FileDay.{Parts, FileDay, is_day, pools_full, padded}
 use Rattle.day_file.specs.File.{day_in, longest_file}
 use Rattle.day_file.specs.Calls.{file_judged, read_of}

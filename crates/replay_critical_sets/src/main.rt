@@ -2,16 +2,25 @@
 #![tactic(auto)]
 
 use day_rows::refusal::Refusal;
-use sets_analysis::analysis::{Analysis, Analyzed, analyze};
-use sets_analysis::day::SetsCounts;
-use sets_levels::level_list::{Listed, level_list};
+use sets_analysis::analysis::{Analysis, analyze};
+use sets_analysis::day::{SetsCounts, SetsDay};
+use sets_levels::level_list::level_list;
 use std::io;
-use test_cases::parts::entries_agree;
+use test_cases::parts::{after, entries_agree};
 use test_cases::replay::replay_all;
-use test_cases::{byte, number, plus, word};
+use test_cases::{byte, first, number, plus, read_words, word};
 
 // What a pool holds before a call, so that what the call left alone shows.
 const BLANK: u64 = 119;
+
+// The sets that an analysis left in the pools, with the levels of the day.
+#[derive(Clone, Copy)]
+struct Sets<'a> {
+    levels: &'a [u16],
+    masks: &'a [u64],
+    set_levels: &'a [u16],
+    count: usize,
+}
 
 // The analysis that a case asks for.
 fn asked(code: u8) -> Analysis {
@@ -24,15 +33,13 @@ fn asked(code: u8) -> Analysis {
 
 // Where the next list of sets begins: ten bytes a set after the count.
 fn after_list(bytes: &[u8], at: usize) -> usize {
-    plus(at, 2 + 10 * (word(bytes, at) as usize))
+    after(plus(at, 2), usize::from(word(bytes, at)), 10)
 }
 
 // Whether the pool holds the members of a list of sets, and zeros after them.
 fn members_agree(bytes: &[u8], at: usize, count: usize, pool: &[u64]) -> bool {
-    if count != word(bytes, at) as usize {
-        return false;
-    }
-    entries_agree(bytes, plus(at, 4), 10, number, count, pool, 0)
+    count == usize::from(word(bytes, at))
+        && entries_agree(bytes, plus(at, 4), 10, number, count, pool, 0)
 }
 
 // Whether the pool holds the levels of a list of sets, and zeros after them.
@@ -40,122 +47,75 @@ fn levels_agree(bytes: &[u8], at: usize, count: usize, pool: &[u16]) -> bool {
     entries_agree(bytes, plus(at, 2), 10, word, count, pool, 0)
 }
 
+// Whether the pools hold a list of sets, and zeros after them.
+fn sets_agree(bytes: &[u8], at: usize, sets: &Sets) -> bool {
+    members_agree(bytes, at, sets.count, sets.masks)
+        && levels_agree(bytes, at, sets.count, sets.set_levels)
+}
+
 // Whether the list of one limit is the Rust's.
-fn list_agrees(
-    bytes: &[u8],
-    at: usize,
-    limit: u16,
-    levels: &[u16],
-    masks: &[u64],
-    set_levels: &[u16],
-    count: usize,
-) -> bool {
+fn list_agrees(bytes: &[u8], at: usize, limit: u16, sets: &Sets) -> bool {
     let mut list = [BLANK; 1024];
-    let answer = level_list(levels, limit, masks, set_levels, count, &mut list);
+    let answer = level_list(
+        sets.levels,
+        limit,
+        sets.masks,
+        sets.set_levels,
+        sets.count,
+        &mut list,
+    );
     match answer {
-        Listed::Sets(listed) => members_agree(bytes, at, listed, &list),
-        Listed::Refused(_) => false,
+        Ok(listed) => members_agree(bytes, at, listed, &list),
+        Err(_) => false,
     }
 }
 
 // Whether each level's list is the Rust's, and after them that of the limit asked.
-fn lists_agree(
-    bytes: &[u8],
-    from: usize,
-    limit: u16,
-    levels: &[u16],
-    masks: &[u64],
-    set_levels: &[u16],
-    count: usize,
-) -> bool {
+fn lists_agree(bytes: &[u8], from: usize, limit: u16, sets: &Sets) -> bool {
     let mut at = from;
-    for level in levels {
-        if !list_agrees(bytes, at, *level, levels, masks, set_levels, count) {
+    for level in sets.levels {
+        if !list_agrees(bytes, at, *level, sets) {
             return false;
         }
         at = after_list(bytes, at);
     }
-    list_agrees(bytes, at, limit, levels, masks, set_levels, count)
+    list_agrees(bytes, at, limit, sets)
 }
 
 // Whether the answer, told from a place on, is this one: 0, the number of sets kept, the bound, the sets and
 // the lists.
-fn answer_agrees(
-    bytes: &[u8],
-    at: usize,
-    limit: u16,
-    levels: &[u16],
-    masks: &[u64],
-    set_levels: &[u16],
-    count: usize,
-    bound: u16,
-) -> bool {
-    if byte(bytes, at) != 0 {
-        return false;
-    }
-    if word(bytes, plus(at, 5)) != bound {
-        return false;
-    }
-    let sets = plus(at, 7);
-    if !members_agree(bytes, sets, count, masks) {
-        return false;
-    }
-    if !levels_agree(bytes, sets, count, set_levels) {
-        return false;
-    }
-    let from = after_list(bytes, sets);
-    lists_agree(bytes, from, limit, levels, masks, set_levels, count)
+fn answer_agrees(bytes: &[u8], at: usize, limit: u16, sets: &Sets, bound: u16) -> bool {
+    let sets_at = plus(at, 7);
+    byte(bytes, at) == 0
+        && word(bytes, plus(at, 5)) == bound
+        && sets_agree(bytes, sets_at, sets)
+        && lists_agree(bytes, after_list(bytes, sets_at), limit, sets)
 }
 
 // Whether a refusal is the one told: 7, with both pools all zero.
-fn refusal_agrees(bytes: &[u8], at: usize, why: Refusal, masks: &[u64], levels: &[u16]) -> bool {
-    if byte(bytes, at) != 1 {
-        return false;
-    }
-    if why.number() != 7 {
-        return false;
-    }
-    if !members_agree(b"", 0, 0, masks) {
-        return false;
-    }
-    levels_agree(b"", 0, 0, levels)
+fn refusal_agrees(bytes: &[u8], at: usize, why: Refusal, sets: &Sets) -> bool {
+    byte(bytes, at) == 1 && why == Refusal::Sets && sets_agree(b"", 0, sets)
 }
 
-// Whether a day whose columns are read is answered as the Rust did: the analysis, the limit and the answer
-// stand from a place on.
-fn agrees_at(
-    bytes: &[u8],
-    at: usize,
-    counts: SetsCounts,
-    mins: &[u16],
-    levels: &[u16],
-    preferences: &[u16],
-) -> bool {
+// Whether a day is answered as the Rust did: the analysis, the limit and the answer stand from a place on.
+fn day_agrees(bytes: &[u8], at: usize, day: &SetsDay) -> bool {
     let mut masks = [BLANK; 1024];
     let mut set_levels = [BLANK as u16; 1024];
-    let answer = analyze(
-        counts,
-        asked(byte(bytes, at)),
-        mins,
-        levels,
-        preferences,
-        &mut masks,
-        &mut set_levels,
-    );
-    let limit = word(bytes, plus(at, 1));
+    let answer = analyze(day, asked(byte(bytes, at)), &mut masks, &mut set_levels);
+    let count = match answer {
+        Ok(figures) => figures.count,
+        Err(_) => 0,
+    };
+    let sets = Sets {
+        levels: day.levels,
+        masks: &masks,
+        set_levels: &set_levels,
+        count,
+    };
     let told = plus(at, 3);
     match answer {
-        Analyzed::Sets { count, bound } => answer_agrees(
-            bytes,
-            told,
-            limit,
-            levels,
-            &masks,
-            &set_levels,
-            count,
-            bound,
-        ),
-        Analyzed::Refused(why) => refusal_agrees(bytes, told, why, &masks, &set_levels),
+        Ok(figures) => answer_agrees(bytes, told, word(bytes, plus(at, 1)), &sets, figures.bound),
+        Err(why) => refusal_agrees(bytes, told, why, &sets),
     }
 }
 
@@ -163,28 +123,27 @@ fn agrees_at(
 // is asked and the answer.
 fn agrees(bytes: &[u8]) -> bool {
     let counts = SetsCounts {
-        choices: byte(bytes, 0) as usize,
-        slots: byte(bytes, 1) as usize,
-        choosers: byte(bytes, 2) as usize,
-        levels: byte(bytes, 3) as usize,
+        choices: usize::from(byte(bytes, 0)),
+        slots: usize::from(byte(bytes, 1)),
+        choosers: usize::from(byte(bytes, 2)),
+        levels: usize::from(byte(bytes, 3)),
     };
     let mut mins = [0u16; 64];
     let mut levels = [0u16; 64];
     let mut preferences = [0u16; 12800];
-    let cells = counts.choosers * counts.choices;
-    let levels_at = 4 + 2 * counts.choices;
-    let preferences_at = levels_at + 2 * counts.levels;
-    test_cases::read_words(bytes, 4, &mut mins);
-    test_cases::read_words(bytes, levels_at, &mut levels);
-    test_cases::read_words(bytes, preferences_at, &mut preferences);
-    agrees_at(
-        bytes,
-        preferences_at + 2 * cells,
+    let cells = after(0, counts.choosers, counts.choices);
+    let levels_at = after(4, counts.choices, 2);
+    let preferences_at = after(levels_at, counts.levels, 2);
+    read_words(bytes, 4, &mut mins);
+    read_words(bytes, levels_at, &mut levels);
+    read_words(bytes, preferences_at, &mut preferences);
+    let day = SetsDay {
         counts,
-        test_cases::first(&mins, counts.choices),
-        test_cases::first(&levels, counts.levels),
-        test_cases::first(&preferences, cells),
-    )
+        mins: first(&mins, counts.choices),
+        levels: first(&levels, counts.levels),
+        preferences: first(&preferences, cells),
+    };
+    day_agrees(bytes, after(preferences_at, cells, 2), &day)
 }
 
 fn main(rt: HostRuntime) -> io::Result<()> {

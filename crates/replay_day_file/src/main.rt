@@ -2,189 +2,87 @@
 #![tactic(auto)]
 
 use day_file::counts::FileCounts;
-use day_file::read::{Read, read_day};
-use day_rows::refusal::Refusal;
+use day_file::read::read_day;
 use std::io;
-use test_cases::parts::{all_are, rows_agree, words_agree};
+use test_cases::days::{Told, told_of};
+use test_cases::parts::{after, all_are, part, rows_agree, words_agree};
 use test_cases::replay::replay_all;
+use test_cases::texts::length_at;
 use test_cases::{byte, is_filled, plus, same, word};
 
 // What the pools hold before a call, to see that a refusal leaves them.
 const BEFORE: u8 = 9;
 
+// The pools of a reading after the call.
+#[derive(Clone, Copy)]
+struct Pools<'a> {
+    mins: &'a [u16],
+    maxs: &'a [u16],
+    optional: &'a [u8],
+    levels: &'a [u16],
+    preferences: &'a [u16],
+    rows: &'a [u64],
+}
+
 // Whether a pool holds the n bytes from a place on, and zeros past them.
 fn bytes_agree(bytes: &[u8], from: usize, n: usize, pool: &[u8]) -> bool {
-    if !same(pool, 0, bytes, from, n) {
-        return false;
-    }
-    is_filled(pool, n, 0)
+    same(pool, 0, bytes, from, n) && is_filled(pool, n, 0)
 }
 
 // Whether the counts are those that stand from a place on.
 fn counts_agree(bytes: &[u8], at: usize, counts: FileCounts) -> bool {
-    if counts.choices != byte(bytes, at) as usize {
-        return false;
-    }
-    if counts.slots != byte(bytes, plus(at, 1)) as usize {
-        return false;
-    }
-    if counts.choosers != byte(bytes, plus(at, 2)) as usize {
-        return false;
-    }
-    if counts.levels != byte(bytes, plus(at, 3)) as usize {
-        return false;
-    }
-    counts.rows == word(bytes, plus(at, 4)) as usize
+    counts.choices == usize::from(byte(bytes, at))
+        && counts.slots == usize::from(byte(bytes, plus(at, 1)))
+        && counts.choosers == usize::from(byte(bytes, plus(at, 2)))
+        && counts.levels == usize::from(byte(bytes, plus(at, 3)))
+        && counts.rows == usize::from(word(bytes, plus(at, 4)))
 }
 
-// Whether a refusal is the expected number, and 5 the expected row.
-fn refusal_agrees(bytes: &[u8], at: usize, refusal: Refusal) -> bool {
-    if refusal.number() != byte(bytes, at) {
-        return false;
-    }
-    match refusal {
-        Refusal::Row(row) => row == word(bytes, plus(at, 1)) as usize,
-        _ => true,
-    }
-}
-
-// Whether every pool is as it was, or holds the day whose lists stand from a place on.
-fn pools_agree(
-    bytes: &[u8],
-    at: usize,
-    answer: Read,
-    mins: &[u16],
-    maxs: &[u16],
-    optional: &[u8],
-    levels: &[u16],
-    preferences: &[u16],
-    rows: &[u64],
-) -> bool {
-    match answer {
-        Read::Day(counts) => day_agrees(
-            bytes,
-            plus(at, 7),
-            counts,
-            mins,
-            maxs,
-            optional,
-            levels,
-            preferences,
-            rows,
-        ),
-        Read::Refused(_) => all_kept(mins, maxs, optional, levels, preferences, rows),
-    }
+// The refusal that stands at a place: its number, and for 5 the row.
+fn refusal_at(bytes: &[u8], at: usize) -> Told {
+    let number = byte(bytes, at);
+    let row = match number {
+        5 => u64::from(word(bytes, plus(at, 1))),
+        _ => 0,
+    };
+    Told { number, row }
 }
 
 // Whether every pool is as it was before the call.
-fn all_kept(
-    mins: &[u16],
-    maxs: &[u16],
-    optional: &[u8],
-    levels: &[u16],
-    preferences: &[u16],
-    rows: &[u64],
-) -> bool {
-    if !all_are(mins, BEFORE as u16) {
-        return false;
-    }
-    if !all_are(maxs, BEFORE as u16) {
-        return false;
-    }
-    if !is_filled(optional, 0, BEFORE) {
-        return false;
-    }
-    if !all_are(levels, BEFORE as u16) {
-        return false;
-    }
-    if !all_are(preferences, BEFORE as u16) {
-        return false;
-    }
-    all_are(rows, BEFORE as u64)
+fn all_kept(pools: &Pools) -> bool {
+    all_are(pools.mins, u16::from(BEFORE))
+        && all_are(pools.maxs, u16::from(BEFORE))
+        && is_filled(pools.optional, 0, BEFORE)
+        && all_are(pools.levels, u16::from(BEFORE))
+        && all_are(pools.preferences, u16::from(BEFORE))
+        && all_are(pools.rows, u64::from(BEFORE))
 }
 
 // Whether the pools hold the day whose lists stand from a place on, and zeros past them.
-fn day_agrees(
-    bytes: &[u8],
-    from: usize,
-    counts: FileCounts,
-    mins: &[u16],
-    maxs: &[u16],
-    optional: &[u8],
-    levels: &[u16],
-    preferences: &[u16],
-    rows: &[u64],
-) -> bool {
-    let c = counts.choices;
-    if !words_agree(bytes, from, c, mins, 0) {
-        return false;
-    }
-    let at = plus(plus(from, c), c);
-    if !words_agree(bytes, at, c, maxs, 0) {
-        return false;
-    }
-    let at = plus(plus(at, c), c);
-    if !bytes_agree(bytes, at, c, optional) {
-        return false;
-    }
-    lists_agree(bytes, plus(at, c), counts, levels, preferences, rows)
+fn day_agrees(bytes: &[u8], mins: usize, counts: FileCounts, pools: &Pools) -> bool {
+    let seats = after(0, counts.choosers, counts.choices);
+    let maxs = after(mins, counts.choices, 2);
+    let optional = after(maxs, counts.choices, 2);
+    let levels = after(optional, counts.choices, 1);
+    let preferences = after(levels, counts.levels, 2);
+    let rows = after(preferences, seats, 2);
+    words_agree(bytes, mins, counts.choices, pools.mins, 0)
+        && words_agree(bytes, maxs, counts.choices, pools.maxs, 0)
+        && bytes_agree(bytes, optional, counts.choices, pools.optional)
+        && words_agree(bytes, levels, counts.levels, pools.levels, 0)
+        && words_agree(bytes, preferences, seats, pools.preferences, 0)
+        && rows_agree(bytes, rows, counts.rows, pools.rows)
 }
 
-// Whether the pools hold the levels, preferences and rows that stand from a place on.
-fn lists_agree(
-    bytes: &[u8],
-    from: usize,
-    counts: FileCounts,
-    levels: &[u16],
-    preferences: &[u16],
-    rows: &[u64],
-) -> bool {
-    let l = counts.levels;
-    if !words_agree(bytes, from, l, levels, 0) {
-        return false;
-    }
-    let at = plus(plus(from, l), l);
-    let seats = seats_of(counts);
-    if !words_agree(bytes, at, seats, preferences, 0) {
-        return false;
-    }
-    rows_agree(bytes, plus(plus(at, seats), seats), counts.rows, rows)
-}
-
-// How many preferences a day has; its counts are small.
-fn seats_of(counts: FileCounts) -> usize {
-    let choices = counts.choices;
-    let choosers = counts.choosers;
-    if 64 < choices {
-        return 0;
-    }
-    if 200 < choosers {
-        return 0;
-    }
-    choices * choosers
-}
-
-// Whether the call's answer, apart from the pools, is the expected one.
-fn answer_agrees(bytes: &[u8], at: usize, answer: Read) -> bool {
-    match answer {
-        Read::Day(counts) => {
-            if byte(bytes, at) != 0 {
-                return false;
-            }
-            counts_agree(bytes, plus(at, 1), counts)
-        }
-        Read::Refused(refusal) => refusal_agrees(bytes, at, refusal),
-    }
-}
-
-// Whether one file, read into pools that hold something before, is answered as told from a place on.
+// Whether one file, read into pools that hold something before, is answered as told from a place on: 0, the
+// counts and the day, or a refusal that leaves the pools.
 fn file_agrees(bytes: &[u8], at: usize, file: &[u8]) -> bool {
-    let mut mins = [BEFORE as u16; 64];
-    let mut maxs = [BEFORE as u16; 64];
+    let mut mins = [u16::from(BEFORE); 64];
+    let mut maxs = [u16::from(BEFORE); 64];
     let mut optional = [BEFORE; 64];
-    let mut levels = [BEFORE as u16; 64];
-    let mut preferences = [BEFORE as u16; 12800];
-    let mut rows = [BEFORE as u64; 128];
+    let mut levels = [u16::from(BEFORE); 64];
+    let mut preferences = [u16::from(BEFORE); 12800];
+    let mut rows = [u64::from(BEFORE); 128];
     let answer = read_day(
         file,
         &mut mins,
@@ -194,30 +92,28 @@ fn file_agrees(bytes: &[u8], at: usize, file: &[u8]) -> bool {
         &mut preferences,
         &mut rows,
     );
-    if !answer_agrees(bytes, at, answer) {
-        return false;
+    let pools = Pools {
+        mins: &mins,
+        maxs: &maxs,
+        optional: &optional,
+        levels: &levels,
+        preferences: &preferences,
+        rows: &rows,
+    };
+    match answer {
+        Ok(counts) => {
+            byte(bytes, at) == 0
+                && counts_agree(bytes, plus(at, 1), counts)
+                && day_agrees(bytes, plus(at, 7), counts, &pools)
+        }
+        Err(why) => told_of(why) == refusal_at(bytes, at) && all_kept(&pools),
     }
-    pools_agree(
-        bytes,
-        at,
-        answer,
-        &mins,
-        &maxs,
-        &optional,
-        &levels,
-        &preferences,
-        &rows,
-    )
 }
 
 // Whether one case is answered as told: a file with its length before it, then the answer.
 fn agrees(bytes: &[u8]) -> bool {
-    let size = (word(bytes, 0) as usize) * 65536 + word(bytes, 2) as usize;
-    let end = size + 4;
-    if bytes.len() < end {
-        return false;
-    }
-    file_agrees(bytes, end, &bytes[4..end])
+    let size = length_at(bytes, 0);
+    file_agrees(bytes, plus(4, size), part(bytes, 4, size))
 }
 
 fn main(rt: HostRuntime) -> io::Result<()> {

@@ -4,15 +4,20 @@
 use day_rows::check::Counts;
 use day_rows::number::Choice;
 use day_rows::refusal::Refusal;
-use search_map::lookup::{MapCounts, lookup};
-use search_map::own_map::{Mapped, own_map};
+use search_map::lookup::lookup;
+use search_map::map::{Map, MapCounts};
+use search_map::own_map::own_map;
 use std::io;
+use test_cases::days::is_refusal;
 use test_cases::parts::{after, all_are, rows, words, words_agree};
 use test_cases::replay::replay_all;
 use test_cases::{byte, first, number, plus, word};
 
 // What a pool's words hold before a call, so that what the call left alone shows.
 const BLANK_WORD: u16 = 30_583;
+
+// Where an own map's rows stand, behind its counts and the lengths.
+const ROWS_AT: usize = 41;
 
 // Where a lookup's starts stand, behind its counts, its choice and the lengths.
 const STARTS_AT: usize = 37;
@@ -22,31 +27,9 @@ fn listed_at(at: usize) -> usize {
     plus(at, 3)
 }
 
-// The row that a refusal carries.
-fn row_of(why: Refusal) -> usize {
-    match why {
-        Refusal::Row(row) => row,
-        _ => 0,
-    }
-}
-
-// Whether a refusal's number stands at a place, 100 more, with the row that it carries.
-fn is_refusal(bytes: &[u8], at: usize, why: Refusal) -> bool {
-    if byte(bytes, at) as u16 != why.number() as u16 + 100 {
-        return false;
-    }
-    word(bytes, plus(at, 1)) as usize == row_of(why)
-}
-
 // Whether all three pools hold a word and nothing else.
-fn all_hold(starts: &[u16], sizes: &[u16], numbers: &[u16], held: u16) -> bool {
-    if !all_are(starts, held) {
-        return false;
-    }
-    if !all_are(sizes, held) {
-        return false;
-    }
-    all_are(numbers, held)
+fn all_hold(pools: &Map, held: u16) -> bool {
+    all_are(pools.starts, held) && all_are(pools.lengths, held) && all_are(pools.numbers, held)
 }
 
 // What the pools hold after a refusal: 6 leaves them all zero, the others as they were.
@@ -58,29 +41,13 @@ fn left_by(why: Refusal) -> u16 {
 }
 
 // Whether the own map of so many choices stands from a place on, and zeros are behind it in the pools.
-fn is_map(
-    bytes: &[u8],
-    at: usize,
-    choices: usize,
-    count: usize,
-    starts: &[u16],
-    sizes: &[u16],
-    numbers: &[u16],
-) -> bool {
-    if byte(bytes, at) != 0 {
-        return false;
-    }
-    if word(bytes, plus(at, 1)) as usize != count {
-        return false;
-    }
+fn is_map(bytes: &[u8], at: usize, choices: usize, count: usize, pools: &Map) -> bool {
     let sizes_at = after(listed_at(at), choices, 2);
-    if !words_agree(bytes, listed_at(at), choices, starts, 0) {
-        return false;
-    }
-    if !words_agree(bytes, sizes_at, choices, sizes, 0) {
-        return false;
-    }
-    words_agree(bytes, after(sizes_at, choices, 2), count, numbers, 0)
+    byte(bytes, at) == 0
+        && usize::from(word(bytes, plus(at, 1))) == count
+        && words_agree(bytes, listed_at(at), choices, pools.starts, 0)
+        && words_agree(bytes, sizes_at, choices, pools.lengths, 0)
+        && words_agree(bytes, after(sizes_at, choices, 2), count, pools.numbers, 0)
 }
 
 // Whether an own map's answer and pools are the record's.
@@ -88,116 +55,93 @@ fn is_made(
     bytes: &[u8],
     at: usize,
     choices: usize,
-    made: Mapped,
-    starts: &[u16],
-    sizes: &[u16],
-    numbers: &[u16],
+    made: Result<usize, Refusal>,
+    pools: &Map,
 ) -> bool {
     match made {
-        Mapped::Numbers(count) => is_map(bytes, at, choices, count, starts, sizes, numbers),
-        Mapped::Refused(why) => {
-            if !is_refusal(bytes, at, why) {
-                return false;
-            }
-            all_hold(starts, sizes, numbers, left_by(why))
-        }
+        Ok(count) => is_map(bytes, at, choices, count, pools),
+        Err(why) => is_refusal(bytes, at, why) && all_hold(pools, left_by(why)),
     }
 }
 
-// The lengths of an own map's three pools.
+// An own map that a record asks for: the counts, the rows, the lengths of the three pools, and where the
+// answer stands.
 #[derive(Clone, Copy)]
-struct PoolLengths {
+struct OwnCase<'a> {
+    counts: Counts,
+    rows: &'a [u64],
     starts: usize,
     sizes: usize,
     numbers: usize,
+    answer: usize,
 }
 
 // Makes the own map in the first parts of pools, and tells whether answer and pools are the record's.
 fn own_agrees_in(
     bytes: &[u8],
-    counts: Counts,
-    rows: &[u64],
-    at: usize,
-    lengths: PoolLengths,
+    case: &OwnCase,
     starts: &mut [u16],
     sizes: &mut [u16],
     numbers: &mut [u16],
 ) -> bool {
-    if starts.len() < lengths.starts {
+    if starts.len() < case.starts {
         return false;
     }
-    if sizes.len() < lengths.sizes {
+    if sizes.len() < case.sizes {
         return false;
     }
-    if numbers.len() < lengths.numbers {
+    if numbers.len() < case.numbers {
         return false;
     }
     let made = own_map(
-        counts,
-        rows,
-        &mut starts[..lengths.starts],
-        &mut sizes[..lengths.sizes],
-        &mut numbers[..lengths.numbers],
+        case.counts,
+        case.rows,
+        &mut starts[..case.starts],
+        &mut sizes[..case.sizes],
+        &mut numbers[..case.numbers],
     );
-    is_made(
-        bytes,
-        at,
-        counts.choices,
-        made,
-        first(starts, lengths.starts),
-        first(sizes, lengths.sizes),
-        first(numbers, lengths.numbers),
-    )
+    let pools = Map {
+        starts: first(starts, case.starts),
+        lengths: first(sizes, case.sizes),
+        numbers: first(numbers, case.numbers),
+    };
+    is_made(bytes, case.answer, case.counts.choices, made, &pools)
 }
 
 // Whether a record of an own map is answered as told.
 fn own_agrees(bytes: &[u8]) -> bool {
-    let counts = Counts {
-        choices: number(bytes, 1) as usize,
-        slots: number(bytes, 9) as usize,
-        choosers: number(bytes, 17) as usize,
-        rows: number(bytes, 25) as usize,
-    };
-    let length = word(bytes, 33) as usize;
-    let lengths = PoolLengths {
-        starts: word(bytes, 35) as usize,
-        sizes: word(bytes, 37) as usize,
-        numbers: word(bytes, 39) as usize,
-    };
+    let length = usize::from(word(bytes, 33));
     let mut given = [0u64; 1026];
+    rows(bytes, ROWS_AT, length, &mut given);
+    let case = OwnCase {
+        counts: Counts {
+            choices: number(bytes, 1) as usize,
+            slots: number(bytes, 9) as usize,
+            choosers: number(bytes, 17) as usize,
+            rows: number(bytes, 25) as usize,
+        },
+        rows: first(&given, length),
+        starts: usize::from(word(bytes, 35)),
+        sizes: usize::from(word(bytes, 37)),
+        numbers: usize::from(word(bytes, 39)),
+        answer: after(ROWS_AT, length, 8),
+    };
     let mut starts = [BLANK_WORD; 66];
     let mut sizes = [BLANK_WORD; 66];
     let mut numbers = [BLANK_WORD; 10_242];
-    rows(bytes, 41, length, &mut given);
-    own_agrees_in(
-        bytes,
-        counts,
-        first(&given, length),
-        after(41, length, 8),
-        lengths,
-        &mut starts,
-        &mut sizes,
-        &mut numbers,
-    )
+    own_agrees_in(bytes, &case, &mut starts, &mut sizes, &mut numbers)
 }
 
-// A lookup's number as a record has it.
-fn told_number(why: u8) -> u16 {
-    if why == 0 {
-        return 0;
+// Whether a lookup's answer stands from a place on: 0 and the part, or a refusal.
+fn is_looked_up(bytes: &[u8], at: usize, answer: Result<&[u16], Refusal>) -> bool {
+    match answer {
+        Ok(part) => {
+            byte(bytes, at) == 0
+                && part.len() == usize::from(word(bytes, plus(at, 1)))
+                && words_agree(bytes, listed_at(at), part.len(), part, 0)
+        }
+        Err(why) => is_refusal(bytes, at, why),
     }
-    why as u16 + 100
-}
-
-// Whether a lookup's number and part stand from a place on.
-fn is_looked_up(bytes: &[u8], at: usize, why: u8, part: &[u16]) -> bool {
-    if byte(bytes, at) as u16 != told_number(why) {
-        return false;
-    }
-    if part.len() != word(bytes, plus(at, 1)) as usize {
-        return false;
-    }
-    words_agree(bytes, listed_at(at), part.len(), part, 0)
 }
 
 // The lengths of a lookup's slices, and how many of the numbers are written, the rest being 0.
@@ -222,11 +166,11 @@ struct SlicePlaces {
 // The lengths of a lookup's slices that stand in the record.
 fn slice_lengths(bytes: &[u8]) -> SliceLengths {
     SliceLengths {
-        starts: word(bytes, 27) as usize,
-        sizes: word(bytes, 29) as usize,
-        numbers: word(bytes, 31) as usize,
-        whole: word(bytes, 33) as usize,
-        written: word(bytes, 35) as usize,
+        starts: usize::from(word(bytes, 27)),
+        sizes: usize::from(word(bytes, 29)),
+        numbers: usize::from(word(bytes, 31)),
+        whole: usize::from(word(bytes, 33)),
+        written: usize::from(word(bytes, 35)),
     }
 }
 
@@ -244,23 +188,14 @@ fn slice_places(lengths: SliceLengths) -> SlicePlaces {
 }
 
 // Whether a record of a lookup whose map is read is answered as told.
-fn lookup_agrees_in<'a>(
-    bytes: &[u8],
-    answer: usize,
-    starts: &[u16],
-    sizes: &[u16],
-    numbers: &'a [u16],
-    whole: &'a [u16],
-) -> bool {
+fn lookup_agrees_in<'a>(bytes: &[u8], answer: usize, map: &Map<'a>, whole: &'a [u16]) -> bool {
     let counts = MapCounts {
         choices: number(bytes, 1) as usize,
         rows: number(bytes, 9) as usize,
         numbers: number(bytes, 17) as usize,
     };
-    let mut why = 119u8;
     let choice = Choice(word(bytes, 25));
-    let part = lookup(counts, choice, starts, sizes, numbers, whole, &mut why);
-    is_looked_up(bytes, answer, why, part)
+    is_looked_up(bytes, answer, lookup(counts, choice, map, whole))
 }
 
 // Whether a record of a lookup is answered as told.
@@ -275,14 +210,12 @@ fn lookup_agrees(bytes: &[u8]) -> bool {
     words(bytes, places.sizes, lengths.sizes, &mut sizes);
     words(bytes, places.numbers, lengths.written, &mut numbers);
     words(bytes, places.whole, lengths.whole, &mut whole);
-    lookup_agrees_in(
-        bytes,
-        places.answer,
-        first(&starts, lengths.starts),
-        first(&sizes, lengths.sizes),
-        first(&numbers, lengths.numbers),
-        first(&whole, lengths.whole),
-    )
+    let map = Map {
+        starts: first(&starts, lengths.starts),
+        lengths: first(&sizes, lengths.sizes),
+        numbers: first(&numbers, lengths.numbers),
+    };
+    lookup_agrees_in(bytes, places.answer, &map, first(&whole, lengths.whole))
 }
 
 // Whether one record is answered as told: 0 and an own map, or 1 and a lookup.

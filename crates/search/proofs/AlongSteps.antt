@@ -1,5 +1,5 @@
 -- The loop over the levels: what is ahead is the whole call.
-use mathlib.Core.Path.{◌≡◌, refl, sym, ◌∙◌, ap}
+use mathlib.Core.Path.{◌≡◌, refl, sym, ◌∙◌, ap, ap₂}
 use mathlib.Core.Bool.{Bool, true, false, cond}
 use mathlib.Core.List.{List, [], ◌∷◌}
 use Prim.Native.Nat.{ℕ, suc, ◌+◌, ◌-◌, ◌≤◌, ◌<◌, min}
@@ -23,6 +23,7 @@ use Rattle.search_rules.proofs.PassesLaws.{passes-last-hit, passes-last-dry, pas
 use Rattle.search_meaning.specs.Search.{levels_above}
 use Rattle.search_meaning.specs.Calls.{settled}
 use Rattle.search_levels.specs.steps.Step.{Follows, answers, goes_on, step_tells, begun_of, step_of}
+use Rattle.search_levels.specs.declared.step.Begun.{Begun}
 use Rattle.search_levels.specs.declared.step.Step.{Step}
 use Rattle.search_levels.specs.declared.step.Step.TheVariants as steps
 use Rattle.search.specs.steps.Ground.{Ground, lent_in, pass_in, ending_in, answered, call_in}
@@ -149,25 +150,34 @@ module _ (ground : Ground) (budget total start : ℕ) (before : List ℕ) where
               rw (s, l) (next h (left - budget) draw' (omega (arith, f.few-turns)) (sym (passes-cut-on (pass_in ground) budget limit pass left draw level higher q (omega arith)) ∙ ahead_cons))
 
     -- what follows the pass, by whether a level is above
-    module _ {turns : ℕ} (t : turns ≡ cond (leb (length ground.levels) above) left (min left budget)) (passed : Passed) {after : List ℕ}
-        (p : leaves (passed_tells passed) after ≡ left_by (lent_in ground limit pass) now (pass_in ground limit pass turns draw)) (step : Step)
-        (s : step_tells step ≡ step_of (begun_of (leb (length ground.levels) above) left turns total (pass + 1) limit) (passed_tells passed)) where
-      ended_is : passed_tells passed ≡ ended_by (pass_in ground limit pass turns draw)
-      ended_is = ap (λ (x : Leaves). x.ended) (p ∙ left_by_lem (lent_in ground limit pass) now (pass_in ground limit pass turns draw))
+    abbrev turns : ℕ
+    turns = cond (leb (length ground.levels) above) left (min left budget)
 
-      after_is : after ≡ cells_by (lent_in ground limit pass) now (pass_in ground limit pass turns draw)
-      after_is = ap (λ (x : Leaves). x.plan) (p ∙ left_by_lem (lent_in ground limit pass) now (pass_in ground limit pass turns draw))
+    module _ {begun : Begun} (b : begun ≡ begun_of (leb (length ground.levels) above) left turns total (pass + 1) limit) (passed : Passed) {after : List ℕ}
+        (p : leaves (passed_tells passed) after ≡ left_by (lent_in ground limit pass) now (pass_in ground limit pass begun.turns draw)) (step : Step)
+        (s : step_tells step ≡ step_of begun (passed_tells passed)) where
+      abbrev out : Out
+      out = pass_in ground limit pass turns draw
 
-      follows : (b : Bool) → leb (length ground.levels) above ≡ b → turns ≡ cond b left (min left budget)
-          → After (step_of (begun_of b left turns total (pass + 1) limit) (ended_by (pass_in ground limit pass turns draw))) (cells_by (lent_in ground limit pass) now (pass_in ground limit pass turns draw))
+      left-is : leaves (passed_tells passed) after ≡ leaves (ended_by out) (cells_by (lent_in ground limit pass) now out)
+      left-is = (rw b at p) ∙ left_by_lem (lent_in ground limit pass) now out
+
+      ended_is : passed_tells passed ≡ ended_by out
+      ended_is = ap (λ (x : Leaves). x.ended) left-is
+
+      after_is : after ≡ cells_by (lent_in ground limit pass) now out
+      after_is = ap (λ (x : Leaves). x.plan) left-is
+
+      follows : (b : Bool) → leb (length ground.levels) above ≡ b → {had : ℕ} → had ≡ cond b left (min left budget)
+          → After (step_of (begun_of b left had total (pass + 1) limit) (ended_by (pass_in ground limit pass had draw))) (cells_by (lent_in ground limit pass) now (pass_in ground limit pass had draw))
       follows true l u = rw u (last-pass (leb-true _ _ l) (pass_in ground limit pass left draw) refl (turns_in ground limit pass left draw))
       follows false l u = rw u (pass_below (leb-false _ _ l) (pass_in ground limit pass (min left budget) draw) refl (turns_in ground limit pass (min left budget) draw))
 
       along_step : {known : Step} → step ≡ known → After (step_tells known) after
       along_step {known} k =
-          let e : step_tells known ≡ step_of (begun_of (leb (length ground.levels) above) left turns total (pass + 1) limit) (ended_by (pass_in ground limit pass turns draw)) =
-          ap step_tells (sym k) ∙ s ∙ ap (step_of (begun_of (leb (length ground.levels) above) left turns total (pass + 1) limit)) ended_is in
-          rw (e, after_is) (follows (leb (length ground.levels) above) refl t)
+          let e : step_tells known ≡ step_of (begun_of (leb (length ground.levels) above) left turns total (pass + 1) limit) (ended_by out) =
+          ap step_tells (sym k) ∙ s ∙ ap₂ step_of b ended_is in
+          rw (e, after_is) (follows (leb (length ground.levels) above) refl refl)
 
       -- where the call answers, the answer is the whole call's
       pub along_answer : {answer : Searched} → step ≡ steps.Answer answer → outcome (done (settled answer)) after ≡ call_in ground budget total start before

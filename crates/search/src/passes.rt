@@ -8,7 +8,7 @@ ghost use Rattle.search.specs.steps.LevelPass.{basis_lent, ground_on, PassReady}
 use super::basis::Basis;
 use super::pass::pass_at;
 use search_levels::levels::{level_at, levels_up_to};
-use search_levels::step::{Begun, Step, after_pass, turns_of};
+use search_levels::step::{Step, after_pass, begun_by};
 use search_meaning::answer::Searched;
 use search_meaning::settings::Settings;
 
@@ -25,30 +25,18 @@ pub(crate) fn passes_from(
         outcome (done (settled result)) plan.new
         ≡ call_in footing settings.pass_budget settings.total_budget start plan.old }
 {
-    let total = settings.total_budget;
     let mut limit = start;
     let mut above = levels_up_to(basis.levels, start);
-    let mut left = total;
+    let mut left = settings.total_budget;
     let mut draw = 0;
     let mut pass = 0;
     // How a pass ends decides whether there is a next one, so that no count runs along the passes.
     loop {
         let last = basis.levels.len() <= above;
-        let turns = turns_of(last, left, settings.pass_budget);
-        let passed = pass_at(basis, limit, pass, turns, draw, plan);
-        pass += 1;
-        let begun = Begun {
-            last,
-            left,
-            turns,
-            total,
-            passes: pass,
-            limit,
-        };
+        let begun = begun_by(last, left, settings, pass + 1, limit);
+        let passed = pass_at(basis, limit, pass, begun.turns, draw, plan);
         match after_pass(begun, passed) {
-            Step::Answer(answer) => {
-                return answer;
-            }
+            Step::Answer(answer) => return answer,
             Step::On {
                 left: rest,
                 draw: next,
@@ -59,5 +47,6 @@ pub(crate) fn passes_from(
         }
         limit = level_at(basis.levels, above);
         above += 1;
+        pass += 1;
     }
 }

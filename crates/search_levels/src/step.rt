@@ -2,9 +2,10 @@
 ghost use Rattle.std.specs.Prelude.{◌≡◌, cond, ◌-◌, min};
 ghost use Rattle.search_pass.specs.steps.Call.{passed_tells};
 ghost use Rattle.search_meaning.specs.Calls.{figures};
-ghost use Rattle.search_levels.specs.steps.Step.{step_tells, after_found, after_without, after_wanting, step_of};
+ghost use Rattle.search_levels.specs.steps.Step.{begun_of, step_tells, after_found, after_without, after_wanting, step_of};
 
 use search_meaning::answer::{Figures, Searched};
+use search_meaning::settings::Settings;
 use search_pass::pass::Passed;
 
 // A pass as a call begins it: whether it is the last level's; the turns left before it, those that it has and
@@ -28,13 +29,28 @@ pub enum Step {
 
 // The turns of a pass: 'A pass below the last level also ends when it needs a turn past the pass budget', the
 // last has every turn that is left.
-pub fn turns_of(last: bool, left: u64, budget: u64) -> u64
+fn turns_of(last: bool, left: u64, budget: u64) -> u64
     ensures { result ≡ cond last left (min left budget) }
 {
     if last {
         return left;
     }
     left.min(budget)
+}
+
+// A pass as a call with these settings begins it.
+pub fn begun_by(last: bool, left: u64, settings: Settings, passes: usize, limit: u16) -> Begun
+    ensures { let turns = cond last left (min left settings.pass_budget) in
+        result ≡ begun_of last left turns settings.total_budget passes limit }
+{
+    Begun {
+        last,
+        left,
+        turns: turns_of(last, left, settings.pass_budget),
+        total: settings.total_budget,
+        passes,
+        limit,
+    }
 }
 
 // The turns left of those before a pass that spared some of its own.

@@ -1,17 +1,14 @@
 -- The figures of a refusal and of a reduction, and the settings of a search by their numbers.
-use mathlib.Core.Path.{◌≡◌, refl, sym, ◌∙◌, ap, ap₂}
+use mathlib.Core.Path.{◌≡◌, refl, ◌∙◌, ap, ap₂}
 use mathlib.Core.Bool.{Bool}
 use mathlib.Core.List.{List, [], ◌∷◌}
 use Prim.Native.Nat.{ℕ}
 use lib.ListN.{length}
-use Rattle.reduce.specs.Reduction.{reduced_tells}
-use Rattle.reduce.specs.declared.Reduced.{Reduced}
-use Rattle.reduce.specs.declared.Reduced.TheVariants as reduced
 use Rattle.reduce.specs.declared.Reduction.{Reduction}
 use Rattle.sets_analysis.specs.declared.analysis.Analysis.{Analysis}
 use Rattle.search_meaning.specs.declared.settings.Settings.{Settings}
 use Rattle.thalluscrest_figures.specs.Codes.{yes, analysis_by, settings_by}
-use Rattle.thalluscrest_figures.specs.Crossing.{answer, refusal_figures, told_figures}
+use Rattle.thalluscrest_figures.specs.Crossing.{answer, refusal_figures}
 use Rattle.thalluscrest_figures.specs.Layouts.{flag, reduction_figures}
 use Rattle.thalluscrest_figures.specs.steps.Carried.{row_carried}
 use Rattle.thalluscrest_figures.specs.steps.Kinds.{of_kinds}
@@ -32,14 +29,13 @@ refusal-told {number} {told} {row} carried n r =
 
 -- ---- a reduction: its rows, the clash, and the lists counted in its pool
 
-pub reduction-told : (pool : List ℕ) {known : Reduced} {reduction : Reduction} {clash searched seated : ℕ} → known ≡ reduced.Rows reduction
+pub reduction-told : (pool : List ℕ) (reduction : Reduction) {clash searched seated : ℕ}
     → clash ≡ flag reduction.clash → searched ≡ length (of_kinds 1 6 pool) → seated ≡ length (of_kinds 10 13 pool)
-    → answer 0 (reduction.count ∷ clash ∷ searched ∷ seated ∷ 0 ∷ 0 ∷ 0 ∷ 0 ∷ []) ≡ told_figures (reduction_figures pool) (reduced_tells known)
-reduction-told pool {known} {reduction} {clash} {searched} {seated} k c s r =
-    ap (λ (n : ℕ). answer 0 (reduction.count ∷ n ∷ searched ∷ seated ∷ 0 ∷ 0 ∷ 0 ∷ 0 ∷ [])) c
-    ∙ ap₂ (λ (n m : ℕ). answer 0 (reduction.count ∷ flag reduction.clash ∷ n ∷ m ∷ 0 ∷ 0 ∷ 0 ∷ 0 ∷ []))
+    → reduction.count ∷ clash ∷ searched ∷ seated ∷ 0 ∷ 0 ∷ 0 ∷ 0 ∷ [] ≡ reduction_figures pool reduction
+reduction-told pool reduction {clash} {searched} {seated} c s r =
+    ap (λ (n : ℕ). reduction.count ∷ n ∷ searched ∷ seated ∷ 0 ∷ 0 ∷ 0 ∷ 0 ∷ []) c
+    ∙ ap₂ (λ (n m : ℕ). reduction.count ∷ flag reduction.clash ∷ n ∷ m ∷ 0 ∷ 0 ∷ 0 ∷ 0 ∷ [])
     (s ∙ ap length (search-kinds pool)) (r ∙ ap length (roster-kinds pool))
-    ∙ sym (ap (λ (a : Reduced). told_figures (reduction_figures pool) (reduced_tells a)) k)
 
 -- ---- the settings of a search
 

@@ -3,12 +3,12 @@ use Rattle.std.specs.Prelude.{Bool, cond, List, [], ◌∷◌, ℕ, length}
 use Rattle.day_rows.specs.Told.{Outcome}
 use Rattle.reduce.specs.Reduction.{search_list, roster_list}
 use Rattle.reduce.specs.declared.Reduction.{Reduction}
-use Rattle.sets_analysis.specs.Calls as sets
+use Rattle.sets_analysis.specs.declared.analysis.Figures as sets
 use Rattle.day_file.specs.declared.counts.FileCounts.{FileCounts}
 use Rattle.list_all.specs.Outcome.{PageTold, plans_told, turns_told}
 use Rattle.list_nodes.specs.Page as walked
 use Rattle.search_meaning.specs.Calls.{Settled, plan, no_plan, out_of_turns}
-use Rattle.roster_check.specs.Check.{Scored}
+use Rattle.roster_check.specs.declared.roster_check.Scored.{Scored}
 use Rattle.thalluscrest_figures.specs.Crossing.{Crossed, across}
 
 -- a flag as a figure: yes is 1, no is 0

@@ -3,6 +3,7 @@
 
 pub mod codes;
 pub mod counts;
+pub mod crossing;
 pub mod day;
 pub mod plan;
 pub mod refusal;

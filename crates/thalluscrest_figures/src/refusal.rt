@@ -21,5 +21,5 @@ pub fn put_refusal(why: Refusal, figures: &mut [u64; 8]) -> u8
     ensures { answer result figures.new ≡ answer (number_of why) (refusal_figures (carried_by why)) }
 {
     *figures = [row_of(why), 0, 0, 0, 0, 0, 0, 0];
-    why.number()
+    u8::from(why)
 }

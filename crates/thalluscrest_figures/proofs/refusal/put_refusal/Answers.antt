@@ -4,4 +4,4 @@ use Rattle.thalluscrest_figures.proofs.FigureLaws.{refusal-told}
 use Rattle.thalluscrest_figures.proofs.refusal.put_refusal.Goals as goal
 
 pub returns : goal.returns
-returns c = refusal-told (carried_by c.args.why) c.number.ensures c.row_of.ensures
+returns c = refusal-told (carried_by c.args.why) c.from.ensures c.row_of.ensures
