@@ -38,44 +38,37 @@ struct Case {
     places: Places,
 }
 
-// An answer as a record tells it.
-#[derive(Clone, Copy, PartialEq, Eq)]
-enum Outcome {
-    Scored { passed: bool, highest: u16 },
-    Refused(Told),
-}
-
 // What the record expects at a place: 0 failed, 1 passed, each with the highest preference; or a refusal's
 // number, with the row that it carries. The told records have 100 more; the Rust's file says 10 for a refused
 // cell.
-fn outcome_at(bytes: &[u8], at: usize) -> Outcome {
+fn told_at(bytes: &[u8], at: usize) -> Result<Scored, Told> {
+    let written = byte(bytes, at);
     let value = word(bytes, plus(at, 1));
-    let row = u64::from(value);
-    match byte(bytes, at) {
-        0 => Outcome::Scored {
-            passed: false,
+    if written < 2 {
+        return Ok(Scored {
+            passed: written == 1,
             highest: value,
-        },
-        1 => Outcome::Scored {
-            passed: true,
-            highest: value,
-        },
-        10 => Outcome::Refused(Told { number: 10, row }),
-        written => Outcome::Refused(Told {
-            number: told_number(written),
-            row,
-        }),
+        });
     }
+    let number = if written == 10 {
+        10
+    } else {
+        told_number(written)
+    };
+    Err(Told {
+        number,
+        row: u64::from(value),
+    })
 }
 
-// A call's answer as a record tells it.
-fn outcome_of(answer: Result<Scored, Refusal>) -> Outcome {
-    match answer {
-        Ok(scored) => Outcome::Scored {
-            passed: scored.passed,
-            highest: scored.highest,
-        },
-        Err(why) => Outcome::Refused(told_of(why)),
+// Whether an answer is the one expected.
+fn is_answer(answer: Result<Scored, Refusal>, told: Result<Scored, Told>) -> bool {
+    match (answer, told) {
+        (Ok(scored), Ok(expected)) => {
+            scored.passed == expected.passed && scored.highest == expected.highest
+        }
+        (Err(why), Err(expected)) => told_of(why) == expected,
+        _ => false,
     }
 }
 
@@ -112,7 +105,7 @@ fn agrees_at(bytes: &[u8], case: &Case, search_rows: &[u64], assignment_rows: &[
         plan: first(&plan, lengths.plan),
         roster: first(&roster, lengths.roster),
     });
-    outcome_of(answer) == outcome_at(bytes, after(roster_at, lengths.roster, 1))
+    is_answer(answer, told_at(bytes, after(roster_at, lengths.roster, 1)))
 }
 
 // Whether one case is answered as expected: both lists of rows are read, and then the others.
