@@ -11,7 +11,6 @@ use lib.ListN.{length, get_or, drop, drop_of_length-le}
 use lib.Seq.{drop-cons}
 use Rattle.base_lists.specs.All.{all_of}
 use Rattle.std.specs.Cmp.{both_ways}
-use Rattle.std.specs.List.{list_all}
 use Rattle.base_lists.specs.Below.{all_below}
 use Rattle.base_lists.proofs.Below.{and_both, and_left, and_right, all-each, each_all}
 
@@ -49,11 +48,6 @@ module _ {ℓ} {A : Type ℓ} (p : A → Bool) where
   each-all_of (x ∷ l) d h =
       and_both (p x) (all_of p l) (h zero (omega arith)) (each-all_of l d λ k hk. h (suc k) (omega arith))
 
-  -- the same of a test by places, and of the word for what an iterator's `all` answers
+  -- the same of a test by places
   pub all_of-below : (l : List A) (d : A) → all_below (length l) (λ k. p (get_or l k d)) ≡ all_of p l
   all_of-below l d = both_ways _ _ (λ h. each-all_of l d (all-each (length l) (λ k. p (get_or l k d)) h)) (λ h. each_all (length l) _ (all_of-each l d h))
-
-pub all_of-list_all : {A : Type 0} (p : A → Bool) (l : List A) → list_all p l ≡ all_of p l
-unfolding all_of
-all_of-list_all p [] = refl
-all_of-list_all p (x ∷ l) = ap (λ (b : Bool). p x && b) (all_of-list_all p l)

@@ -19,3 +19,4 @@ pub mod Stores
 pub mod SumBelow
 pub mod Sums
 pub mod Through
+pub mod Words

@@ -97,9 +97,3 @@ module _ (by : ℕ → ℕ → ℕ → ℕ) (rows : List ℕ) where
   pub rows_end : (i : ℕ) (first figures : List ℕ) → length rows ≤ i → limits_change by (drop i rows) figures ≡ limits_change by rows first → figures ≡ limits_change by rows first
   unfolding limits_change
   rows_end i first figures h e = sym (ap (λ (l : List ℕ). limits_change by l figures) (drop_of_length-le rows h)) ∙ e
-
--- std's test of some row is the rules' own
-pub some-limit : (rows : List ℕ) → list_any (λ number. eqb (row_of number).kind 6) rows ≡ has_limit rows
-unfolding has_limit any_of
-some-limit [] = refl
-some-limit (number ∷ rows) = ap (λ (b : Bool). eqb (row_of number).kind 6 || b) (some-limit rows)

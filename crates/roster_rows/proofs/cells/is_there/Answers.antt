@@ -1,7 +1,7 @@
 use Rattle.std.proofs.Common.{◌∙◌, eqb, rules, tests}
 use Rattle.std.proofs.lemmas.Iterator.{YieldsList-from_slice}
 use Rattle.std.proofs.lemmas.Iterator.Search.{any_from_yields_List}
-use Rattle.roster_rows.proofs.Words.{some-passes, either-way}
+use Rattle.base_lists.proofs.Words.{some-passes, either-way}
 use Rattle.roster_rows.proofs.cells.is_there.Goals as goal
 
 pub returns : goal.returns
