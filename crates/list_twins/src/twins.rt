@@ -1,12 +1,14 @@
 // The twins of a slot: exchanging the two in the places of the later choices turns plans into plans.
 ghost use Rattle.std.specs.Prelude.{◌≡◌, ◌≤◌, ◌<◌, min, eqb, take};
 ghost use Rattle.base_choice_sets.specs.Sets.{set_of};
+ghost use Rattle.plan_check.specs.Day.{day_lent};
 ghost use Rattle.list_twins.specs.steps.Twins.{twins_of};
 ghost use Rattle.list_twins.specs.steps.Alike.{alike};
 
 use super::names::named_slots;
 use base_choice_sets::set::{member, with_if};
 use day_rows::check::Counts;
+use plan_check::day::Day;
 
 // Whether the sums of two slots are the same.
 fn same_sum(one: usize, other: usize) -> bool
@@ -15,7 +17,8 @@ fn same_sum(one: usize, other: usize) -> bool
     one == other
 }
 
-// Whether the other slot isn't named and has the sums of the one, of maximums as far as the choosers go.
+// Whether the other slot isn't named and has the sums of the one, of maximums as far as the choosers go. The
+// two lists of sums are lent one by one: the struct of both is list_look's, and this crate doesn't stand on it.
 fn is_alike(
     choosers: usize,
     names: u64,
@@ -38,19 +41,18 @@ fn is_alike(
 
 // The slots that are like a given one.
 fn alike_slots(
-    slots: usize,
-    choosers: usize,
+    counts: Counts,
     names: u64,
     slot_min: &[usize; 24],
     slot_max: &[usize; 24],
     slot: usize,
 ) -> u64
-    requires { (slots ≤ 24) × (slot < slots) }
-    ensures { result ≡ set_of slots (alike choosers names slot_min.now slot_max.now slot) }
+    requires { (counts.slots ≤ 24) × (slot < counts.slots) }
+    ensures { result ≡ set_of counts.slots (alike counts.choosers names slot_min.now slot_max.now slot) }
 {
     let mut set = 0;
-    for other in 0..slots {
-        let inside = is_alike(choosers, names, slot_min, slot_max, slot, other);
+    for other in 0..counts.slots {
+        let inside = is_alike(counts.choosers, names, slot_min, slot_max, slot, other);
         set = with_if(set, other, inside);
     }
     set
@@ -59,33 +61,27 @@ fn alike_slots(
 // A slot's twins before a choice takes its place, the sums being those of the choices before it;
 // of a day of over 24 slots none.
 pub fn twins_of(
-    counts: Counts,
-    rows: &[u64],
+    day: &Day,
     choice: usize,
     plan: &[u8],
     slot_min: &[usize; 24],
     slot_max: &[usize; 24],
     slot: usize,
 ) -> u64
-    ensures { let start = take choice plan.now in
-        result ≡ twins_of counts start rows.now slot_min.now slot_max.now slot }
+    ensures { let day = day_lent day.now in
+        let start = take choice plan.now in
+        result ≡ twins_of day.counts start day.rows slot_min.now slot_max.now slot }
 {
+    let counts = day.counts;
     if 24 < counts.slots {
         return 0;
     }
     if counts.slots <= slot {
         return 0;
     }
-    let names = named_slots(rows, choice, plan);
+    let names = named_slots(day.rows, choice, plan);
     if member(names, slot) {
         return 0;
     }
-    alike_slots(
-        counts.slots,
-        counts.choosers,
-        names,
-        slot_min,
-        slot_max,
-        slot,
-    )
+    alike_slots(counts, names, slot_min, slot_max, slot)
 }

@@ -124,9 +124,7 @@ fn without_twins(
         let twins = twins_of day.counts start day.rows sums.now.mins sums.now.maxs place in
         result ≡ set_of 64 (λ later. has places later && not (has twins later)) }
 {
-    let twins = twins_of(
-        day.counts, day.rows, choice, plan, &sums.mins, &sums.maxs, place,
-    );
+    let twins = twins_of(day, choice, plan, &sums.mins, &sums.maxs, place);
     without(places, twins)
 }
 

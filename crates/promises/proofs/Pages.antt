@@ -7,7 +7,7 @@ use Prim.Native.Nat.{ℕ, ◌+◌, ◌-◌, ◌≤◌, ◌<◌, min}
 use native.Mathlib.Omega.{arith}
 use lib.ListN.{length, get_or, take}
 use lib.Seq.{sets, take-length}
-use Rattle.day_rows.specs.Told.{Told, done, refused, good, outcome}
+use Rattle.day_rows.specs.Told.{Told, done, good, outcome}
 use Rattle.day_rows.proofs.ToldLaws.{done-is, refused-not-done}
 use Rattle.plan_check.specs.Day.{Day}
 use Rattle.day_file.specs.File.{day_in, longest_file}

@@ -2,8 +2,8 @@
 ghost use Rattle.std.specs.Prelude.{◌≡◌, ◌+◌, length, set};
 ghost use Rattle.reduce_turn.specs.steps.Free.{Wrote, Put};
 
-// The free end of a pool, and the place in it of the next row. Past the end the place alone goes on, so that it
-// tells how many rows there are.
+// The free end of a pool, and the place in it of the next row. Past the end the place alone goes on, so that
+// it tells how many rows there are.
 #[derive(Drop)]
 pub struct Free<'a> {
     pub rows: &'a mut [u64],

@@ -14,6 +14,7 @@ use std::io::Read;
 use std::{fs, io};
 
 pub mod days;
+pub mod pages;
 pub mod parts;
 pub mod replay;
 pub mod texts;

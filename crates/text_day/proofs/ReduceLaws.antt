@@ -89,11 +89,14 @@ module _ (counts : Counts) (mins maxs optional rows : List ℕ) (g : FileGiven c
     unfolding reduced_rows
     result_fits = let h = length_unique (expanded counts rows) in let t = leb-true (length (expanded counts rows)) 1024 r.few in omega (arith, h, t)
 
-    pub count_fits : count ≤ 1024
+    count_fits : count ≤ 1024
     count_fits = let h = result_fits in omega (arith, h, r.counted)
 
-    pub pool-length : length pool ≡ 1024
+    pool-length : length pool ≡ 1024
     pool-length = ap length r.held ∙ length-pad 1024 (reduced_rows counts rows) result_fits
+
+    pub count-within : count ≤ length pool
+    count-within = let h = count_fits in let l = pool-length in omega (arith, h, l)
 
     -- the reduction is the pool's front
     pub reduced_front : take count pool ≡ reduced_rows counts rows

@@ -5,8 +5,10 @@ use Prim.Native.Nat.{ℕ, ◌≤◌}
 use native.Mathlib.Omega.{arith}
 use borrow.Author.Tests.{eq-eqb, ne_eqb}
 use lib.ListN.{length, replicate}
-use Rattle.day_rows.specs.Told.{done, refuse, outcome}
-use Rattle.day_rows.proofs.ToldLaws.{one-outcome}
+use Rattle.std.specs.Prelude.{Result}
+use Rattle.day_rows.specs.declared.refusal.Refusal.{Refusal}
+use Rattle.day_rows.specs.Told.{tells, done, refuse, outcome}
+use Rattle.day_rows.proofs.ToldLaws.{one_told-outcome}
 use Rattle.day_rows.specs.declared.check.Takes.TheVariants as takes
 use Rattle.day_rows.proofs.CountLaws.{within}
 use Rattle.day_file.specs.FileDay.{row_counts}
@@ -18,10 +20,8 @@ use Rattle.text_lines.specs.Putting.{longest}
 use Rattle.text_lines.proofs.PlanFitLaws.{Modest, answer-fits}
 use Rattle.text_day.specs.Prepared.{Prepared, prepared_of}
 use Rattle.text_day.specs.Prepared as prepared
-use Rattle.text_day.specs.Made.{made_tells}
-use Rattle.text_day.specs.declared.made.Made.{Made}
 use Rattle.text_day.proofs.FileLaws.{given, ready-good}
-use Rattle.text_day.proofs.MadeLaws.{made-whole, made_back, made-back}
+use Rattle.text_day.proofs.MadeLaws.{made-whole}
 use Rattle.text_plan.specs.PlanAnswer.{day_answer, answer_by, answer_of}
 use Rattle.text_plan.specs.steps.Meaning.{file_given, AnswerMeans}
 use Rattle.text_plan.specs.Calls.{plan_text, text_judged, text_of}
@@ -76,6 +76,6 @@ unfolding plan_text
 text-of file e = ap answer_text e
 
 -- no two outcomes fit the promise of the text
-pub one-text : (file pool : List ℕ) {answer other : Made} {text rest : List ℕ} → outcome (made_tells answer) text ≡ text_of file pool → outcome (made_tells other) rest ≡ text_of file pool
+pub one-text : (file pool : List ℕ) {answer other : Result ℕ Refusal} {text rest : List ℕ} → outcome (tells answer) text ≡ text_of file pool → outcome (tells other) rest ≡ text_of file pool
     → (answer ≡ other) × (text ≡ rest)
-one-text file pool = one-outcome made_tells made_back made-back
+one-text file pool = one_told-outcome

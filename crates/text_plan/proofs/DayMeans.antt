@@ -21,7 +21,7 @@ use Rattle.search_meaning.specs.declared.settings.Settings.{Settings}
 use Rattle.search_meaning.specs.Demand.{OwnMap, Settles}
 use Rattle.search_meaning.proofs.DemandHolds.{demand}
 use Rattle.search_day.specs.Planning.{with_numbers, given_with, given_own, plan_day_of}
-use Rattle.search_day.specs.declared.plan.PlanCounts.{PlanCounts}
+use Rattle.search_day.specs.declared.given.PlanCounts.{PlanCounts}
 use Rattle.search_day.proofs.PlanSteps.{pools-full}
 
 module _ (counts : PlanCounts) (mins maxs optional levels preferences rows orders draws : List ℕ) (settings : Settings) (before : List ℕ) where

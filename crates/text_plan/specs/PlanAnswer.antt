@@ -9,9 +9,11 @@ use Rattle.day_file.specs.File.{day_in}
 use Rattle.day_file.specs.declared.counts.FileCounts.{FileCounts}
 use Rattle.search_meaning.specs.Given.{Given}
 use Rattle.search_meaning.specs.Calls.{Settled, plan, no_plan, out_of_turns}
+use Rattle.search_meaning.specs.declared.answer.Figures.{Figures}
 use Rattle.search_meaning.specs.declared.settings.Settings.{Settings}
 use Rattle.search_day.specs.Planning.{given_own, full_by, plan_day_of}
-use Rattle.search_day.specs.declared.plan.PlanCounts.{PlanCounts}
+use Rattle.search_day.specs.declared.given.PlanCounts.{PlanCounts}
+use Rattle.text_lines.specs.declared.plan_lines.Figures as lines
 use Rattle.text_lines.specs.PlanLines.{PlanAnswer, found, none, turns, clash, refused}
 use Rattle.text_day.specs.Prepared.{Prepared, reduced_to, prepared_of}
 use Rattle.text_day.specs.Prepared as prepared
@@ -31,6 +33,10 @@ plan_counts counts rows =
       levels = counts.levels;
       rows = rows;
     }
+
+-- a search's figures as the text says them
+abbrev pub said : Figures → lines.Figures
+said figures = record { turns = figures.turns; passes = figures.passes; limit = figures.limit }
 
 -- the answer of a search that is settled: `found`, `none` or `turns`, each with its figures
 abbrev pub settled_answer : Settled → List ℕ → PlanAnswer

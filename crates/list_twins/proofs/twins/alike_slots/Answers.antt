@@ -13,4 +13,4 @@ loop-other-preserved c =
 
 pub returns : goal.returns
 returns c =
-    let e : c.loop-other.other ≡ c.args.slots = omega (arith, c.loop-other-test.false) in rw e at c.loop-other.invariant
+    let e : c.loop-other.other ≡ c.args.counts.slots = omega (arith, c.loop-other-test.false) in rw e at c.loop-other.invariant

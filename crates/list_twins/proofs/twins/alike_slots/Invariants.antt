@@ -6,4 +6,4 @@ use Rattle.list_twins.proofs.twins.alike_slots.Given as goal
 
 abbrev pub invariant-loop-other : goal.invariant-loop-other
 invariant-loop-other l =
-    l.set ≡ set_of l.other (alike l.choosers l.names l.slot_min l.slot_max l.slot)
+    l.set ≡ set_of l.other (alike l.counts.choosers l.names l.slot_min l.slot_max l.slot)

@@ -1,4 +1,5 @@
 use Rattle.std.proofs.Common.{[], length, refl, ◌∙◌}
+use Rattle.list_nodes.specs.steps.Run.{standing}
 use Rattle.list_nodes.proofs.Falls.{to_choice, to_next, next-choice}
 use Rattle.list_walk.proofs.CallLaws.{to_open, open_place}
 use Rattle.list_walk.proofs.StandLaws.{stood_as, left_as, passed_as}
@@ -35,7 +36,7 @@ walk_choice-shape_of-buffer-then-near_end t c =
 pub walk_choice-returns-then-near_end : goal.walk_choice-returns-then-near_end
 walk_choice-returns-then-near_end t c =
     let l = c.requires in
-    walked-seen _ _ l c.if-turns-eq0.false c.if-choice-plan.false (seen_near_here _ _ _ _ _ (so_far [] [] l) l.shaped.plan-fits c.near_end.ensures c.if-near_end.true) refl c.walk_open.ensures
+    walked-seen _ _ l c.if-turns-eq0.false c.if-choice-plan.false (seen_near_here _ _ _ _ _ (so_far [] [] l) l.shaped.plan-fits c.near_end.ensures c.if-near_end.true) refl {after = standing c.walk_open.result c.walk_open.new.turns c.walk_open.new.met c.walk_open.new.buffer} c.walk_open.ensures
 
 pub walk_choice-walk_open-requires-2 : goal.walk_choice-walk_open-requires-2
 walk_choice-walk_open-requires-2 t c =
@@ -50,7 +51,7 @@ walk_choice-shape_of-buffer t c =
 pub walk_choice-returns : goal.walk_choice-returns
 walk_choice-returns t c =
     let l = c.requires in
-    walked-seen _ _ l c.if-turns-eq0.false c.if-choice-plan.false (seen_far_here _ _ _ _ _ (so_far [] [] l) l.shaped.plan-fits c.near_end.ensures c.if-near_end.false c.look_ahead-seen.ensures) refl c.walk_open-2.ensures
+    walked-seen _ _ l c.if-turns-eq0.false c.if-choice-plan.false (seen_far_here _ _ _ _ _ (so_far [] [] l) l.shaped.plan-fits c.near_end.ensures c.if-near_end.false c.look_ahead-seen.ensures) refl {after = standing c.walk_open-2.result c.walk_open-2.new.turns c.walk_open-2.new.met c.walk_open-2.new.buffer} c.walk_open-2.ensures
 
 pub walk_open-returns-then-opened-eq0 : goal.walk_open-returns-then-opened-eq0
 walk_open-returns-then-opened-eq0 t c =
@@ -72,7 +73,7 @@ walk_open-shape_of-buffer t c =
 pub walk_open-returns : goal.walk_open-returns
 walk_open-returns t c =
     let o = c.open_next-opened.ensures in
-    walked_open _ _ c.requires o.0 o.1.1.0 o.1.1.1 refl c.rows_after-rows.ensures c.walk_place.ensures
+    walked_open _ _ c.requires o.0 o.1.1.0 o.1.1.1 refl c.rows_after-rows.ensures {standing' = standing c.walk_place.result c.walk_place.new.turns c.walk_place.new.met c.walk_place.new.buffer} c.walk_place.ensures
 
 pub walk_place-overflow_add-choice : goal.walk_place-overflow_add-choice
 walk_place-overflow_add-choice t c =

@@ -12,7 +12,7 @@ use Rattle.text_day.proofs.FileLaws.{FileRead, zeros-full, day_case, refused_cas
 use Rattle.text_plan.proofs.AnswerLaws.{answer-refused, day-answer}
 use Rattle.text_plan.proofs.CallLaws.{text-of}
 use Rattle.text_plan.proofs.text.put_plan_of_file.Goals as goal
-use Rattle.text_plan.proofs.text.put_plan_of_file.Goals.{In-Day, In-Refused}
+use Rattle.text_plan.proofs.text.put_plan_of_file.Goals.{In-Ok, In-Err}
 
 pub returns-then-file-gt-LONGEST_FILE : goal.returns-then-file-gt-LONGEST_FILE
 returns-then-file-gt-LONGEST_FILE c =
@@ -20,65 +20,65 @@ returns-then-file-gt-LONGEST_FILE c =
     put_as _ _ (refused-is _ ∙ text-of s.args.file.now (answer-refused s.args.file.now (prepared_long s.args.file.now c.if-file-gt-LONGEST_FILE.true))) c.put_refusal.ensures
 
 -- a file that is read fills them
-filled : (c : In-Day)
-    → FileRead c.args.file.now c.in-Day.counts (parts c.read_day-read.new.mins c.read_day-read.new.maxs c.read_day-read.new.optional c.read_day-read.new.levels c.read_day-read.new.preferences c.read_day-read.new.rows)
+filled : (c : In-Ok)
+    → FileRead c.args.file.now c.in-Ok.counts (parts c.read_day-read.new.mins c.read_day-read.new.maxs c.read_day-read.new.optional c.read_day-read.new.levels c.read_day-read.new.preferences c.read_day-read.new.rows)
 filled c =
-    day_case c.args.file.now _ zeros-full c.read_day-read.ensures c.in-Day.is
+    day_case c.args.file.now _ zeros-full c.read_day-read.ensures c.in-Ok.is
 
 -- or it is refused
-unread : (c : In-Refused) → file_judged c.args.file.now ≡ refused (number_of c.in-Refused.why) (carried_by c.in-Refused.why)
+unread : (c : In-Err) → file_judged c.args.file.now ≡ refused (number_of c.in-Err.why) (carried_by c.in-Err.why)
 unread c =
-    refused_case c.args.file.now _ zeros-full c.read_day-read.ensures c.in-Refused.is
+    refused_case c.args.file.now _ zeros-full c.read_day-read.ensures c.in-Err.is
 
 pub slice_bounds-mins-end : goal.slice_bounds-mins-end
-slice_bounds-mins-end c = let f = filled (goal.at.slice_bounds-mins-end c).In-Day in mins-within _ f
+slice_bounds-mins-end c = let f = filled (goal.at.slice_bounds-mins-end c).In-Ok in mins-within _ f
 
-pub slice_bounds-put_day-end : goal.slice_bounds-put_day-end
-slice_bounds-put_day-end c = let f = filled (goal.at.slice_bounds-put_day-end c).In-Day in sym (length-take-le _ _ (mins-within _ f))
+pub slice_bounds-day-end : goal.slice_bounds-day-end
+slice_bounds-day-end c = let f = filled (goal.at.slice_bounds-day-end c).In-Ok in sym (length-take-le _ _ (mins-within _ f))
 
 pub slice_bounds-maxs-end : goal.slice_bounds-maxs-end
-slice_bounds-maxs-end c = let f = filled (goal.at.slice_bounds-maxs-end c).In-Day in maxs-within _ f
+slice_bounds-maxs-end c = let f = filled (goal.at.slice_bounds-maxs-end c).In-Ok in maxs-within _ f
 
-pub slice_bounds-put_day-end-in-Day : goal.slice_bounds-put_day-end-in-Day
-slice_bounds-put_day-end-in-Day c = let f = filled (goal.at.slice_bounds-put_day-end-in-Day c).In-Day in sym (length-take-le _ _ (maxs-within _ f))
+pub slice_bounds-day-end-in-Ok : goal.slice_bounds-day-end-in-Ok
+slice_bounds-day-end-in-Ok c = let f = filled (goal.at.slice_bounds-day-end-in-Ok c).In-Ok in sym (length-take-le _ _ (maxs-within _ f))
 
 pub slice_bounds-optional-end : goal.slice_bounds-optional-end
-slice_bounds-optional-end c = let f = filled (goal.at.slice_bounds-optional-end c).In-Day in optional-within _ f
+slice_bounds-optional-end c = let f = filled (goal.at.slice_bounds-optional-end c).In-Ok in optional-within _ f
 
-pub slice_bounds-put_day-end-in-Day-2 : goal.slice_bounds-put_day-end-in-Day-2
-slice_bounds-put_day-end-in-Day-2 c = let f = filled (goal.at.slice_bounds-put_day-end-in-Day-2 c).In-Day in sym (length-take-le _ _ (optional-within _ f))
+pub slice_bounds-day-end-in-Ok-2 : goal.slice_bounds-day-end-in-Ok-2
+slice_bounds-day-end-in-Ok-2 c = let f = filled (goal.at.slice_bounds-day-end-in-Ok-2 c).In-Ok in sym (length-take-le _ _ (optional-within _ f))
 
 pub slice_bounds-levels-end : goal.slice_bounds-levels-end
-slice_bounds-levels-end c = let f = filled (goal.at.slice_bounds-levels-end c).In-Day in levels-within _ f
+slice_bounds-levels-end c = let f = filled (goal.at.slice_bounds-levels-end c).In-Ok in levels-within _ f
 
-pub slice_bounds-put_day-end-in-Day-3 : goal.slice_bounds-put_day-end-in-Day-3
-slice_bounds-put_day-end-in-Day-3 c = let f = filled (goal.at.slice_bounds-put_day-end-in-Day-3 c).In-Day in sym (length-take-le _ _ (levels-within _ f))
+pub slice_bounds-day-end-in-Ok-3 : goal.slice_bounds-day-end-in-Ok-3
+slice_bounds-day-end-in-Ok-3 c = let f = filled (goal.at.slice_bounds-day-end-in-Ok-3 c).In-Ok in sym (length-take-le _ _ (levels-within _ f))
 
 pub overflow_mul-preferences : goal.overflow_mul-preferences
-overflow_mul-preferences c = let f = filled (goal.at.overflow_mul-preferences c).In-Day in let h = few-preferences _ f in omega (arith, h)
+overflow_mul-preferences c = let f = filled (goal.at.overflow_mul-preferences c).In-Ok in let h = few-preferences _ f in omega (arith, h)
 
 pub slice_bounds-preferences-end : goal.slice_bounds-preferences-end
-slice_bounds-preferences-end c = let f = filled (goal.at.slice_bounds-preferences-end c).In-Day in preferences-within _ f
+slice_bounds-preferences-end c = let f = filled (goal.at.slice_bounds-preferences-end c).In-Ok in preferences-within _ f
 
-pub slice_bounds-put_day-end-in-Day-4 : goal.slice_bounds-put_day-end-in-Day-4
-slice_bounds-put_day-end-in-Day-4 c = let f = filled (goal.at.slice_bounds-put_day-end-in-Day-4 c).In-Day in sym (length-take-le _ _ (preferences-within _ f))
+pub slice_bounds-day-end-in-Ok-4 : goal.slice_bounds-day-end-in-Ok-4
+slice_bounds-day-end-in-Ok-4 c = let f = filled (goal.at.slice_bounds-day-end-in-Ok-4 c).In-Ok in sym (length-take-le _ _ (preferences-within _ f))
 
 pub slice_bounds-rows-end : goal.slice_bounds-rows-end
-slice_bounds-rows-end c = let f = filled (goal.at.slice_bounds-rows-end c).In-Day in rows-within _ f
+slice_bounds-rows-end c = let f = filled (goal.at.slice_bounds-rows-end c).In-Ok in rows-within _ f
 
-pub slice_bounds-put_day-end-in-Day-5 : goal.slice_bounds-put_day-end-in-Day-5
-slice_bounds-put_day-end-in-Day-5 c = let f = filled (goal.at.slice_bounds-put_day-end-in-Day-5 c).In-Day in sym (length-take-le _ _ (rows-within _ f))
+pub slice_bounds-day-end-in-Ok-5 : goal.slice_bounds-day-end-in-Ok-5
+slice_bounds-day-end-in-Ok-5 c = let f = filled (goal.at.slice_bounds-day-end-in-Ok-5 c).In-Ok in sym (length-take-le _ _ (rows-within _ f))
 
 pub put_day-requires : goal.put_day-requires
-put_day-requires c = let f = filled (goal.at.put_day-requires c).In-Day in record { fact_1 = day-given _ f refl; fact_2 = c.requires }
+put_day-requires c = let f = filled (goal.at.put_day-requires c).In-Ok in record { given = day-given _ f refl; full = c.requires }
 
-pub returns-in-Day : goal.returns-in-Day
-returns-in-Day c =
+pub returns-in-Ok : goal.returns-in-Ok
+returns-in-Ok c =
     let s = c in
-    let f = filled (goal.at.returns-in-Day c).In-Day in
+    let f = filled (goal.at.returns-in-Ok c).In-Ok in
     put_as _ _ (text-of s.args.file.now (day-answer s.args.file.now c.if-file-gt-LONGEST_FILE.false f)) c.put_day.ensures
 
-pub returns-in-Refused : goal.returns-in-Refused
-returns-in-Refused c =
+pub returns-in-Err : goal.returns-in-Err
+returns-in-Err c =
     let s = c in
-    put_as _ _ (refused-is _ ∙ text-of s.args.file.now (answer-refused s.args.file.now (prepared_refused s.args.file.now c.if-file-gt-LONGEST_FILE.false (unread (goal.at.returns-in-Refused c).In-Refused)))) c.put_refusal-in-Refused.ensures
+    put_as _ _ (refused-is _ ∙ text-of s.args.file.now (answer-refused s.args.file.now (prepared_refused s.args.file.now c.if-file-gt-LONGEST_FILE.false (unread (goal.at.returns-in-Err c).In-Err)))) c.put_refusal-in-Err.ensures

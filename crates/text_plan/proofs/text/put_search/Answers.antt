@@ -1,49 +1,26 @@
 -- A line for each kind of answer of the search.
+use mathlib.Core.Path.{refl, ◌∙◌, ap}
 use lib.ListN.{replicate}
-use mathlib.Core.Path.{refl, sym, ◌∙◌, ap}
-use Rattle.text_lines.proofs.PutLaws.{put_as}
+use Rattle.std.specs.Prelude.{Ok}
 use Rattle.text_lines.specs.PlanLines.{answer_text}
+use Rattle.text_lines.proofs.PutLaws.{put_as}
 use Rattle.text_lines.proofs.PlanLineLaws.{refused-is}
-use Rattle.text_plan.proofs.AnswerLaws.{blank-fits, blank-lent, found-fits, found-lent, found-told, none_told, turns-told, refused-told}
+use Rattle.text_plan.proofs.AnswerLaws.{found-told, none_told, turns-told, refused-told}
 use Rattle.text_plan.proofs.text.put_search.Goals as goal
 
-pub slice_bounds-plan-end : goal.slice_bounds-plan-end
-slice_bounds-plan-end c =
-    let s = c in
-    blank-fits s.args.counts s.args.mins.now s.args.maxs.now s.args.optional.now s.args.levels.now s.args.preferences.now s.args.rows.now s.requires.fact_1 (replicate 64 0) refl
+pub returns-in-Ok-Found : goal.returns-in-Ok-Found
+returns-in-Ok-Found c =
+    found-told c.args.day.counts _ _ _ _ _ _ c.plan_counts.ensures c.requires.few (replicate 64 0) refl c.plan_day.ensures (c.in-Ok-Found.is ∙ ap Ok c.in-Ok-Found.field-0-is) _ c.args.text.now c.requires.full c.said.ensures c.put_found.ensures
 
-pub slice_bounds-plan-end-in-Found : goal.slice_bounds-plan-end-in-Found
-slice_bounds-plan-end-in-Found c =
-    let s = c in
-    found-fits s.args.counts s.args.mins.now s.args.maxs.now s.args.optional.now s.args.levels.now s.args.preferences.now s.args.rows.now s.requires.fact_1 (replicate 64 0) refl c.plan_day-searched.ensures c.in-Found.is _
+pub returns-in-Ok-None : goal.returns-in-Ok-None
+returns-in-Ok-None c =
+    none_told c.args.day.counts _ _ _ _ _ _ c.plan_counts.ensures c.requires.few (replicate 64 0) refl c.plan_day.ensures (c.in-Ok-None.is ∙ ap Ok c.in-Ok-None.field-0-is) c.args.text.now c.requires.full c.said-in-Ok-None.ensures c.put_none.ensures
 
-pub slice_bounds-put_found-end : goal.slice_bounds-put_found-end
-slice_bounds-put_found-end c =
-    let s = c in
-    sym (found-lent s.args.counts s.args.mins.now s.args.maxs.now s.args.optional.now s.args.levels.now s.args.preferences.now s.args.rows.now s.requires.fact_1 (replicate 64 0) refl c.plan_day-searched.ensures c.in-Found.is _)
+pub returns-in-Ok-OutOfTurns : goal.returns-in-Ok-OutOfTurns
+returns-in-Ok-OutOfTurns c =
+    turns-told c.args.day.counts _ _ _ _ _ _ c.plan_counts.ensures c.requires.few (replicate 64 0) refl c.plan_day.ensures (c.in-Ok-OutOfTurns.is ∙ ap Ok c.in-Ok-OutOfTurns.field-0-is) c.args.text.now c.requires.full c.said-in-Ok-OutOfTurns.ensures c.put_turns.ensures
 
-pub returns-in-Found : goal.returns-in-Found
-returns-in-Found c =
-    let s = c in
-    found-told s.args.counts s.args.mins.now s.args.maxs.now s.args.optional.now s.args.levels.now s.args.preferences.now s.args.rows.now s.requires.fact_1 (replicate 64 0) refl c.plan_day-searched.ensures c.in-Found.is _ s.args.text.now s.requires.fact_2 c.put_found.ensures
-
-pub returns-in-None : goal.returns-in-None
-returns-in-None c =
-    let s = c in
-    none_told s.args.counts s.args.mins.now s.args.maxs.now s.args.optional.now s.args.levels.now s.args.preferences.now s.args.rows.now s.requires.fact_1 (replicate 64 0) refl c.plan_day-searched.ensures c.in-None.is s.args.text.now s.requires.fact_2 c.put_none.ensures
-
-pub returns-in-OutOfTurns : goal.returns-in-OutOfTurns
-returns-in-OutOfTurns c =
-    let s = c in
-    turns-told s.args.counts s.args.mins.now s.args.maxs.now s.args.optional.now s.args.levels.now s.args.preferences.now s.args.rows.now s.requires.fact_1 (replicate 64 0) refl c.plan_day-searched.ensures c.in-OutOfTurns.is s.args.text.now s.requires.fact_2 c.put_turns.ensures
-
-pub returns-in-Refused : goal.returns-in-Refused
-returns-in-Refused c =
-    let s = c in
-    let l = refused-told s.args.counts s.args.mins.now s.args.maxs.now s.args.optional.now s.args.levels.now s.args.preferences.now s.args.rows.now s.requires.fact_1 (replicate 64 0) refl c.plan_day-searched.ensures c.in-Refused.is in
-    put_as _ _ (refused-is _ ∙ ap answer_text l) c.put_refusal.ensures
-
-pub slice_bounds-plan_day-end-3 : goal.slice_bounds-plan_day-end-3
-slice_bounds-plan_day-end-3 c =
-    let s = c in
-    sym (blank-lent s.args.counts s.args.mins.now s.args.maxs.now s.args.optional.now s.args.levels.now s.args.preferences.now s.args.rows.now s.requires.fact_1 (replicate 64 0) refl)
+pub returns-in-Err : goal.returns-in-Err
+returns-in-Err c =
+    let refusal = refused-told c.args.day.counts _ _ _ _ _ _ c.plan_counts.ensures c.requires.few (replicate 64 0) refl c.plan_day.ensures c.in-Err.is in
+    put_as _ _ (refused-is _ ∙ ap answer_text refusal) c.put_refusal.ensures
