@@ -55,7 +55,8 @@ pub(crate) struct Columns {
 }
 
 impl FileCounts {
-    // The counts of a file that the row check takes: all but the levels.
+    // The counts of a file that the row check takes: all but the levels. A name says for what they are, which
+    // From couldn't.
     pub fn for_rows(self) -> Counts
         ensures { result ≡ row_counts self }
     {

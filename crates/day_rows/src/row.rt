@@ -73,6 +73,9 @@ impl Row {
         Row::from(number).extra
     }
 
+    // The constructors are one for each pair of numbers, and none for any two: 'A choice number, a slot number
+    // and a chooser number are kept apart', so that exchanged ends don't compile.
+
     // A row of kind 1 or 2: a choice and a slot.
     pub fn choice_slot(kind: u16, choice: Choice, slot: Slot) -> Row
         ensures { result ≡ plain_row kind choice.0 slot.0 }

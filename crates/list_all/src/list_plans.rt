@@ -17,7 +17,7 @@ use list_starts::page::written_of;
 use plan_check::day::Day;
 
 // What the listing answers of a day that it doesn't refuse: how many plans it wrote, how many there are and
-// how many nodes it visited; or out of turns.
+// how many nodes it visited; or out of turns, which is an answer by a name of its own and not nothing.
 #[derive(Clone, Copy)]
 pub enum Listed {
     Plans {

@@ -1,20 +1,18 @@
 -- What limits make of the figures, as the code comes by it.
 use mathlib.Core.Path.{◌≡◌, refl, sym, ◌∙◌, ap, ap₂}
-use mathlib.Core.Bool.{Bool, ◌||◌, cond}
-use mathlib.Core.List.{List, [], ◌∷◌}
+use mathlib.Core.Bool.{cond}
+use mathlib.Core.List.{List, ◌∷◌}
 use Prim.Native.Nat.{ℕ, suc, ◌+◌, ◌≤◌, ◌<◌, max, min}
 use native.Mathlib.Numerals.{add-one}
 use native.Mathlib.Omega.{arith}
 use borrow.Author.Tests.{lt-ltb, le-ltb, eq-eqb, ne_eqb}
 use lib.Dec.{eqb}
 use lib.ListN.{length, get_or, set, drop, drop_of_length-le}
-use Rattle.std.specs.List.{list_any}
-use Rattle.base_lists.specs.Keep.{any_of}
 use Rattle.base_lists.proofs.Keep.{drop-at-place}
 use Rattle.day_rows.specs.Op.{eq_op, gt_op, geq_op, neq_op, leq_op, lt_op}
 use Rattle.day_rows.specs.Row.{row_of}
 use Rattle.day_rows.specs.declared.row.Row.{Row}
-use Rattle.list_rule_counts.specs.steps.CountRule.{raised_by, lowered_by, limit_changes, limits_change, has_limit}
+use Rattle.list_rule_counts.specs.steps.CountRule.{raised_by, lowered_by, limit_changes, limits_change}
 
 -- ---- the limits
 

@@ -52,7 +52,8 @@ fn add_at(slots: usize, place: usize, amount: usize, sums: &mut [usize; 24])
     sums[place] = sums[place].wrapping_add(amount);
 }
 
-// The sums with an amount taken away at a place.
+// The sums with an amount taken away at a place. Not one function with the other way: adding wraps and taking
+// away stops at 0, as the walk's definitions have it.
 fn take_at(slots: usize, place: usize, amount: usize, sums: &mut [usize; 24])
     ensures { sums.new ≡ taken_at slots place amount sums.old }
 {

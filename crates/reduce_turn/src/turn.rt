@@ -15,7 +15,8 @@ pub struct Turned {
     pub count: usize,
 }
 
-// '7 and 8 become 1 and 2': the slot and the choice change ends.
+// '7 and 8 become 1 and 2': the slot and the choice change ends. This and the next are two functions, since each
+// says which end is a slot, a choice or a chooser.
 fn from_slot(kind: u16, row: Row) -> u64
     ensures { result ≡ exchanged kind row }
 {

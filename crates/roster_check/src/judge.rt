@@ -11,7 +11,8 @@ use day_rows::check::{Counts, Takes, counts_in_range, row_keeps};
 use day_rows::refusal::Refusal;
 
 impl RosterCounts {
-    // The counts that the row check takes: those of the search's list.
+    // The counts that the row check takes: those of the search's list. A name says of which list they are, which
+    // From couldn't.
     pub(crate) fn of_rows(self) -> Counts
         ensures { result ≡ row_counts self }
     {

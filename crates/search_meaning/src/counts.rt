@@ -16,7 +16,8 @@ pub struct SearchCounts {
     pub numbers: usize,
 }
 
-// A search's counts as a check of rows takes them: C, S, H and the number of rows.
+// A search's counts as a check of rows takes them: C, S, H and the number of rows. A name says what is left out,
+// which From couldn't.
 pub fn row_counts(counts: SearchCounts) -> Counts
     ensures { result ≡ row_counts counts }
 {

@@ -138,7 +138,8 @@ pub extern "C" fn thalluscrest_list_plans(
     put(listed, figures)
 }
 
-// Lists a page of plans, and stops where the list goes on past it.
+// Lists a page of plans, and stops where the list goes on past it. Alike in form with the call before, since C
+// calls each by its name.
 #[unsafe(no_mangle)]
 pub extern "C" fn thalluscrest_list_page(
     choices: usize,

@@ -4,7 +4,7 @@ use Rattle.std.proofs.lemmas.Iterator.{YieldsList-from_slice}
 use Rattle.std.proofs.lemmas.Iterator.Search.{any_from_yields_List}
 use Rattle.day_rows.specs.Row.{row_of}
 use Rattle.base_lists.proofs.Words.{some-passes}
-use Rattle.list_rule_counts.specs.steps.Limits.{has_limit}
+use Rattle.list_rule_counts.specs.steps.CountRule.{has_limit}
 use Rattle.list_rule_counts.proofs.bounds.has_limit.Goals as goal
 
 pub returns : goal.returns
