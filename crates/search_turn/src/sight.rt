@@ -42,7 +42,8 @@ fn sight_as_the_rust(slots: usize, passes: bool) -> Sight
     Sight::Over
 }
 
-// What stands at the places decided: 'At depth C the plan check decides.'
+// What stands at the places decided: 'At depth C the plan check decides.' Which of the two meanings it has is a
+// setting, known at run time alone: a closure would be chosen by the same test.
 pub fn sight_at(full: bool, day: &Day, decisions: &[u8], depth: usize) -> Sight
     ensures { sight_tells result ≡ sight_from full (day_lent day.now) decisions.now depth }
 {
