@@ -35,6 +35,7 @@ pub(crate) struct Column {
 }
 
 impl Column {
+    // The column from a place on, with its step and its number of entries.
     fn new(at: usize, step: usize, count: usize) -> Column
         ensures { result ≡ column at step count }
     {
@@ -95,8 +96,8 @@ impl FileCounts {
         }
     }
 
-    // Where the lists of a file with these counts stand: five bytes a choice, two a level and a preference, six a
-    // row.
+    // Where the lists of a file with these counts stand: five bytes a choice, two a level and a preference,
+    // six a row.
     pub(crate) fn columns(self) -> Columns
         requires { file_counts_in_range self ≡ true }
         ensures { result ≡ columns_of self }

@@ -1,4 +1,5 @@
 // Filling a pool from a file: the values from the front, zero past them.
+// Bytes, words and rows have a pair of functions each, since each kind of entry is read in its own way.
 ghost use Rattle.std.specs.Prelude.{◌≡◌, ◌≤◌, length, take};
 ghost use Rattle.base_lists.specs.Pool.{pad};
 ghost use Rattle.day_file.specs.steps.Columns.{Stands, flags_of, words_of, rows_of};

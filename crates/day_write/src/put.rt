@@ -98,8 +98,8 @@ pub(crate) fn put_words(pool: &mut [u8], at: usize, words: &[u16]) -> usize
     at + 2 * words.len()
 }
 
-// Puts a list of rows from a place on, one after the other; the answer is the place past them. It stands beside
-// `put_words`, since a row takes six bytes and asks for columns that fit them.
+// Puts a list of rows from a place on, one after the other; the answer is the place past them. It stands
+// beside `put_words`, since a row takes six bytes and asks for columns that fit them.
 pub(crate) fn put_rows(pool: &mut [u8], at: usize, rows: &[u64]) -> usize
     requires room { at + 6 * length rows.now ≤ length pool.old }
     requires held { (i : ℕ) → i < length rows.now → BytesHold (get_or rows.now i 0) }

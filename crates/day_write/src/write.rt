@@ -88,8 +88,8 @@ fn put_day(day: &FileDay, pool: &mut [u8]) -> usize
     put_rows(pool, rows_at, day.rows)
 }
 
-// Writes a day's file into the lent pool, or refuses and leaves the pool untouched; the answer is how many bytes
-// of the pool the file takes.
+// Writes a day's file into the lent pool, or refuses and leaves the pool untouched; the answer is how many
+// bytes of the pool the file takes.
 pub fn write_day(day: &FileDay, pool: &mut [u8]) -> Result<usize, Refusal>
     ensures { outcome (tells result) pool.new ≡ write_of (file_day_lent day.now) pool.old }
 {

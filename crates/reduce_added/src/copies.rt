@@ -3,7 +3,7 @@
 ghost use Rattle.std.specs.Prelude.{◌≡◌, eqb};
 ghost use mathlib.Core.List.{flat_map};
 ghost use Rattle.base_lists.specs.Keep.{any_of};
-ghost use Rattle.reduce_turn.specs.steps.Free.{Wrote, Countable};
+ghost use Rattle.reduce_turn.specs.steps.Free.{Wrote, Filled, Countable};
 ghost use Rattle.reduce_added.specs.Copies.{copy_to, copies_in, is_copied, copies_of, copies_all};
 ghost use Rattle.reduce_added.specs.steps.Fit.{groups_lent, Lie, copies_for};
 
@@ -11,7 +11,7 @@ use super::groups::{Grouped, groups_fit};
 use day_rows::kind::Kind;
 use day_rows::number::{Choice, Chooser};
 use day_rows::row::Row;
-use reduce_turn::free;
+use reduce_turn::free::Free;
 
 // Whether a group holds a choice.
 fn holds(group: &[u16], choice: u16) -> bool
@@ -20,49 +20,45 @@ fn holds(group: &[u16], choice: u16) -> bool
     group.contains(&choice)
 }
 
-// Writes the row for one member, unless it is the row's own choice; the answer is the place after it.
-fn copy_to(row: Row, member: u16, free: &mut [u64], at: usize) -> usize
-    requires { Countable at (copy_to row member) }
-    ensures { Wrote free.old at (copy_to row member) result free.new }
+// Writes the row for one member, unless it is the row's own choice.
+fn copy_to(row: Row, member: u16, free: &mut Free)
+    requires { Countable free.old.at (copy_to row member) }
+    ensures { Filled free.old (copy_to row member) free.new }
 {
     if member == row.right {
-        return at;
+        return;
     }
     let copy = Row::chooser_choice(row.kind, Chooser(row.left), Choice(member));
-    free::put(free, at, u64::from(copy));
-    at + 1
+    free.put(u64::from(copy));
 }
 
-// Writes the row for the other members of a group that holds its choice; the answer is the place after them.
-fn copies_in(row: Row, group: &[u16], free: &mut [u64], from: usize) -> usize
-    requires { Countable from (copies_in row group.now) }
-    ensures { Wrote free.old from (copies_in row group.now) result free.new }
+// Writes the row for the other members of a group that holds its choice.
+fn copies_in(row: Row, group: &[u16], free: &mut Free)
+    requires { Countable free.old.at (copies_in row group.now) }
+    ensures { Filled free.old (copies_in row group.now) free.new }
 {
     if !holds(group, row.right) {
-        return from;
+        return;
     }
-    let mut at = from;
     for member in group {
-        at = copy_to(row, *member, free, at);
+        copy_to(row, *member, free);
     }
-    at
 }
 
-// Writes the copies of one row of kind 11 or 12; the answer is the place after them.
-fn copies_of(row: Row, groups: &Grouped, free: &mut [u64], from: usize) -> usize
-    requires { Lie groups.now × Countable from (flat_map (copies_in row) (groups_lent groups.now)) }
+// Writes the copies of one row of kind 11 or 12.
+fn copies_of(row: Row, groups: &Grouped, free: &mut Free)
+    requires { let copied = flat_map (copies_in row) (groups_lent groups.now) in
+        Lie groups.now × Countable free.old.at copied }
     ensures { let copied = flat_map (copies_in row) (groups_lent groups.now) in
-        Wrote free.old from copied result free.new }
+        Filled free.old copied free.new }
 {
     let members = groups.members;
-    let mut at = from;
     let mut start = 0;
     for byte in groups.ends {
         let end = usize::from(*byte);
-        at = copies_in(row, &members[start..end], free, at);
+        copies_in(row, &members[start..end], free);
         start = end;
     }
-    at
 }
 
 // Whether a row names a chooser and a choice: kind 11 or 12.
@@ -72,17 +68,16 @@ fn is_copied(kind: u16) -> bool
     kind == Kind::CHOOSER_IS_IN_CHOICE || kind == Kind::CHOOSER_IS_NOT_IN_CHOICE
 }
 
-// Writes the copies of one row, none for other kinds; the answer is the place after them.
-fn copies_for(number: u64, groups: &Grouped, free: &mut [u64], at: usize) -> usize
-    requires { Lie groups.now × Countable at (copies_of (groups_lent groups.now) number) }
-    ensures { let copied = copies_of (groups_lent groups.now) number in
-        Wrote free.old at copied result free.new }
+// Writes the copies of one row, none for other kinds.
+fn copies_for(number: u64, groups: &Grouped, free: &mut Free)
+    requires { Lie groups.now × Countable free.old.at (copies_of (groups_lent groups.now) number) }
+    ensures { Filled free.old (copies_of (groups_lent groups.now) number) free.new }
 {
     let row = Row::from(number);
     if !is_copied(row.kind) {
-        return at;
+        return;
     }
-    copies_of(row, groups, free, at)
+    copies_of(row, groups, free);
 }
 
 // Writes the copies of every row; the answer is how many they are.
@@ -91,11 +86,11 @@ fn write_copies(rows: &[u64], groups: &Grouped, free: &mut [u64]) -> usize
     ensures { let copied = copies_all (groups_lent groups.now) rows.now in
         Wrote free.old 0 copied result free.new }
 {
-    let mut at = 0;
+    let mut end = Free { rows: free, at: 0 };
     for row in rows {
-        at = copies_for(*row, groups, free, at);
+        copies_for(*row, groups, &mut end);
     }
-    at
+    end.at
 }
 
 // Writes the copies of every row, none if rows or groups are more than a day has; the answer is how many they

@@ -1,7 +1,7 @@
 // The pairs: 'a kind 4 row for each pair i < j of positions in each same-choosers group (kind 10), and in
 // each chooser's list of kind 11 choices'.
 ghost use Rattle.std.specs.Prelude.{◌≡◌, map, ◌+◌, ◌≤◌, ◌<◌, length, get_or};
-ghost use Rattle.reduce_turn.specs.steps.Free.{Wrote, Countable};
+ghost use Rattle.reduce_turn.specs.steps.Free.{Wrote, Filled, Countable};
 ghost use Rattle.reduce_added.specs.Pairs.{pair_row, pairs_of, group_pairs, mandatory_one, mandatory, mandatory_pairs};
 ghost use Rattle.reduce_added.specs.steps.Fit.{groups_lent, Lie};
 ghost use Rattle.reduce_added.specs.steps.Limits.{pairs_in_groups, pairs_of_choosers};
@@ -10,32 +10,27 @@ ghost use Rattle.reduce_added.specs.steps.Marks.{MarkedOne, Marked};
 use super::groups::{Grouped, groups_fit};
 use day_rows::kind::Kind;
 use day_rows::row::Row;
-use reduce_turn::free;
+use reduce_turn::free::Free;
 use reduce_turn::pair::pair_row;
 
-// Writes the pairs of one choice with each of a list; the answer is the place after them.
-fn pairs_with(left: u16, list: &[u16], free: &mut [u64], from: usize) -> usize
-    requires { Countable from (map (pair_row left) list.now) }
-    ensures { Wrote free.old from (map (pair_row left) list.now) result free.new }
+// Writes the pairs of one choice with each of a list.
+fn pairs_with(left: u16, list: &[u16], free: &mut Free)
+    requires { Countable free.old.at (map (pair_row left) list.now) }
+    ensures { Filled free.old (map (pair_row left) list.now) free.new }
 {
-    let mut at = from;
     for right in list {
-        free::put(free, at, u64::from(pair_row(left, *right)));
-        at += 1;
+        free.put(u64::from(pair_row(left, *right)));
     }
-    at
 }
 
-// Writes the pairs of a list, each position with those after it; the answer is the place after them.
-fn pairs_of(list: &[u16], free: &mut [u64], from: usize) -> usize
-    requires { Countable from (pairs_of list.now) }
-    ensures { Wrote free.old from (pairs_of list.now) result free.new }
+// Writes the pairs of a list, each position with those after it.
+fn pairs_of(list: &[u16], free: &mut Free)
+    requires { Countable free.old.at (pairs_of list.now) }
+    ensures { Filled free.old (pairs_of list.now) free.new }
 {
-    let mut at = from;
     for (i, left) in list.iter().enumerate() {
-        at = pairs_with(*left, &list[i + 1..], free, at);
+        pairs_with(*left, &list[i + 1..], free);
     }
-    at
 }
 
 // Writes the pairs of each group; the answer is how many they are.
@@ -45,14 +40,14 @@ fn write_group_pairs(groups: &Grouped, free: &mut [u64]) -> usize
         Wrote free.old 0 pairs result free.new }
 {
     let members = groups.members;
-    let mut at = 0;
+    let mut pool = Free { rows: free, at: 0 };
     let mut start = 0;
     for byte in groups.ends {
         let end = usize::from(*byte);
-        at = pairs_of(&members[start..end], free, at);
+        pairs_of(&members[start..end], &mut pool);
         start = end;
     }
-    at
+    pool.at
 }
 
 // Writes the pairs of each group, none if the groups are more than a day has; the answer is how many they
@@ -132,27 +127,18 @@ fn named_at(named: &[u8], chooser: usize) -> u8
     named[chooser]
 }
 
-// Writes the pairs of a chooser's list, which is empty if its flag is zero; the answer is the place after
-// them.
-fn pairs_for(
-    rows: &[u64],
-    named: &[u8],
-    chooser: usize,
-    list: &mut [u16],
-    free: &mut [u64],
-    at: usize,
-) -> usize
+// Writes the pairs of a chooser's list, which is empty if its flag is zero.
+fn pairs_for(rows: &[u64], named: &[u8], chooser: usize, list: &mut [u16], free: &mut Free)
     requires { (length rows.now ≤ length list.old)
         × Marked rows.now named.now
-        × Countable at (pairs_of (mandatory rows.now chooser)) }
-    ensures { let pairs = pairs_of (mandatory rows.now chooser) in
-        Wrote free.old at pairs result free.new }
+        × Countable free.old.at (pairs_of (mandatory rows.now chooser)) }
+    ensures { Filled free.old (pairs_of (mandatory rows.now chooser)) free.new }
 {
     if named_at(named, chooser) == 0 {
-        return at;
+        return;
     }
     let count = mandatory(rows, chooser, list);
-    pairs_of(&list[..count], free, at)
+    pairs_of(&list[..count], free);
 }
 
 // Writes the pairs of each chooser's list; the answer is how many they are.
@@ -163,11 +149,11 @@ fn write_mandatory_pairs(choosers: usize, rows: &[u64], free: &mut [u64]) -> usi
     let mut list = [0u16; 128];
     let mut named = [0u8; 256];
     mark(rows, &mut named);
-    let mut at = 0;
+    let mut end = Free { rows: free, at: 0 };
     for chooser in 0..choosers {
-        at = pairs_for(rows, &named, chooser, &mut list, free, at);
+        pairs_for(rows, &named, chooser, &mut list, &mut end);
     }
-    at
+    end.at
 }
 
 // Writes the pairs of each chooser's list, none if rows or choosers are more than a day has; the answer is

@@ -1,9 +1,9 @@
 // The turned rows: kinds 7, 8, 14 and 15 with left and right exchanged, kind 9 dropped.
 ghost use Rattle.std.specs.Prelude.{◌≡◌, ◌≤◌, min, take, replicate};
-ghost use Rattle.reduce_turn.specs.steps.Free.{Wrote, Countable};
+ghost use Rattle.reduce_turn.specs.steps.Free.{Wrote, Filled, Countable};
 ghost use Rattle.reduce_turn.specs.Turn.{exchanged, turned_row, turned_one, turned_rows, clashes_at, clash_of};
 
-use super::free;
+use super::free::Free;
 use day_rows::kind::Kind;
 use day_rows::number::{Choice, Chooser, Slot};
 use day_rows::row::Row;
@@ -48,16 +48,15 @@ fn turned_row(number: u64) -> u64
     }
 }
 
-// Writes one given row turned, unless it is of kind 9; the answer is the place after it.
-fn turn_one(number: u64, free: &mut [u64], at: usize) -> usize
-    requires { Countable at (turned_one number) }
-    ensures { Wrote free.old at (turned_one number) result free.new }
+// Writes one given row turned, unless it is of kind 9.
+fn turn_one(number: u64, free: &mut Free)
+    requires { Countable free.old.at (turned_one number) }
+    ensures { Filled free.old (turned_one number) free.new }
 {
     if Row::from(number).kind == Kind::SLOTS_HAVE_SAME_CHOICES {
-        return at;
+        return;
     }
-    free::put(free, at, turned_row(number));
-    at + 1
+    free.put(turned_row(number));
 }
 
 // Writes the given rows turned; the answer is how many they are.
@@ -65,11 +64,11 @@ fn write_turned(rows: &[u64], free: &mut [u64]) -> usize
     requires { Countable 0 (turned_rows rows.now) }
     ensures { Wrote free.old 0 (turned_rows rows.now) result free.new }
 {
-    let mut at = 0;
+    let mut end = Free { rows: free, at: 0 };
     for row in rows {
-        at = turn_one(*row, free, at);
+        turn_one(*row, &mut end);
     }
-    at
+    end.at
 }
 
 // Writes the first 128 rows turned; the answer is how many they are.

@@ -7,8 +7,8 @@ pub loop-chooser-init : goal.loop-chooser-init
 loop-chooser-init c =
     (refl, refl, c.named-2-1.given, c.mark.ensures, choosers-none _ _)
 
-pub pairs_for-at-requires : goal.pairs_for-at-requires
-pairs_for-at-requires c =
+pub pairs_for-requires : goal.pairs_for-requires
+pairs_for-requires c =
     let s = c in
     let l = c.loop-chooser in
     (omega (arith, s.requires.0, l.invariant.0), l.invariant.3, choosers-countable s.args.rows.now l.chooser _ _ _ c.loop-chooser-test.true l.invariant.4.0 s.requires.1)
@@ -16,4 +16,5 @@ pairs_for-at-requires c =
 pub loop-chooser-preserved : goal.loop-chooser-preserved
 loop-chooser-preserved c =
     let l = c.loop-chooser in
-    (c.list-in-loop-chooser-1.given, c.free-1.given ∙ l.invariant.1, l.invariant.2, l.invariant.3, choosers-part _ l.chooser _ _ _ _ _ l.invariant.4 c.pairs_for-at.ensures)
+    let w = c.pairs_for.ensures in
+    (c.list-in-loop-chooser-1.given, w.0 ∙ l.invariant.1, l.invariant.2, l.invariant.3, choosers-part _ l.chooser _ _ _ _ _ l.invariant.4 w.1)

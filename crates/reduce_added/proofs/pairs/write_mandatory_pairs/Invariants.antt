@@ -8,4 +8,4 @@ use Rattle.reduce_added.specs.steps.Marks.{Marked}
 use Rattle.reduce_added.proofs.pairs.write_mandatory_pairs.Given as goal
 
 abbrev pub invariant-loop-chooser : goal.invariant-loop-chooser
-invariant-loop-chooser l = (length l.list ≡ 128) × (length l.free ≡ length l.initial.free) × (length l.named ≡ 256) × Marked l.rows l.named × Wrote l.initial.free 0 (mandatory_pairs l.rows l.chooser) l.at l.free
+invariant-loop-chooser l = (length l.list ≡ 128) × (l.end.rows.ghost_name ≡ l.initial.end.rows.ghost_name) × (length l.named ≡ 256) × Marked l.rows l.named × Wrote l.initial.end.rows.now 0 (mandatory_pairs l.rows l.chooser) l.end.at l.end.rows.now
