@@ -6,8 +6,8 @@ ghost use Rattle.search.specs.steps.LevelPass.{basis_lent, lent_by};
 use super::basis::Basis;
 use super::order::order_at;
 use super::sets::sets_at;
-use search_pass::lent::Lent;
 use search_pass::pass::{Passed, run_pass};
+use search_rules::pass::Lent;
 
 // One pass at its limit, with the limit's sets and the order of the pass, for callers that have judged their
 // day: what `run_pass` and `level_list` test is tested here.

@@ -1,2 +1,1 @@
 pub mod steps
-pub use Rattle.search_turn.specs.Lent

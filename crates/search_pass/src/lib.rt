@@ -2,6 +2,3 @@
 #![tactic(auto)]
 
 pub mod pass;
-
-// What a pass is lent, for who calls one.
-pub use search_turn::lent;

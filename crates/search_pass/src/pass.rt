@@ -1,14 +1,13 @@
 // One pass: turns down and back until a plan, an end, or a turn that isn't there.
 ghost use Rattle.std.specs.Prelude.{◌≡◌, ◌≤◌, length, get_or};
 ghost use Rattle.base_lists.specs.Keep.{sum_over};
-ghost use Rattle.search_rules.specs.Pass.{pass_of};
-ghost use Rattle.search_turn.specs.Lent.{lent_now};
+ghost use Rattle.search_rules.specs.Pass.{pass_lent, pass_of};
 ghost use Rattle.search_pass.specs.steps.Call.{leaves, passed_tells, left_by, pass_fits, pass_leaves};
 ghost use Rattle.search_pass.specs.steps.Taken.{Taken, Within};
 
 use search_order::is_permutation;
+use search_rules::pass::Lent;
 use search_turn::depth::open_if_new;
-use search_turn::lent::Lent;
 use search_turn::plan::write_plan;
 use search_turn::shape::shapes_fit;
 use search_turn::sight::{Sight, sight_at};
@@ -38,9 +37,9 @@ fn all_max(order: &[u8], maxs: &[u16]) -> u32
 // The walk of a pass whose day and order are taken: turns until a plan, an end, or a turn that isn't there.
 // There is room for 25 candidates of each of 65 depths, and for where they go on and end.
 fn walk_pass(lent: &Lent, budget: u64, first_draw: usize, plan: &mut [u8]) -> Passed
-    requires fact { Taken (lent_now lent.now) }
+    requires fact { Taken (pass_lent lent.now) }
     requires plan_len { length plan.old ≡ lent.now.day.counts.choices }
-    ensures { let lent = lent_now lent.now in
+    ensures { let lent = pass_lent lent.now in
         let out = pass_of lent budget first_draw in
         leaves (passed_tells result) plan.new ≡ left_by lent plan.old out }
 {
@@ -79,7 +78,7 @@ fn walk_pass(lent: &Lent, budget: u64, first_draw: usize, plan: &mut [u8]) -> Pa
 
 // Whether what is lent is taken: a day's shape, and an order that is a permutation of the choices.
 fn pass_fits(lent: &Lent, plan: &[u8]) -> bool
-    ensures { result ≡ pass_fits (lent_now lent.now) plan.now }
+    ensures { result ≡ pass_fits (pass_lent lent.now) plan.now }
 {
     if !shapes_fit(&lent.day, plan) {
         return false;
@@ -91,7 +90,7 @@ fn pass_fits(lent: &Lent, plan: &[u8]) -> bool
 // only C, S and lengths are tested here, and the order.
 pub fn run_pass(lent: &Lent, budget: u64, draw: usize, plan: &mut [u8]) -> Passed
     ensures { leaves (passed_tells result) plan.new
-        ≡ pass_leaves (lent_now lent.now) budget draw plan.old }
+        ≡ pass_leaves (pass_lent lent.now) budget draw plan.old }
 {
     if !pass_fits(lent, plan) {
         return Passed::Without { left: budget, draw };

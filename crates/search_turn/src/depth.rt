@@ -2,17 +2,17 @@
 ghost use Rattle.std.specs.Prelude.{◌≡◌};
 ghost use Rattle.search_map.specs.Map.{looked_up};
 ghost use Rattle.search_candidates.specs.Bucket.{asked_of, written};
-ghost use Rattle.search_turn.specs.Lent.{lent_now};
+ghost use Rattle.search_rules.specs.Pass.{pass_lent};
 ghost use Rattle.search_turn.specs.steps.Opening.{loads_in, open_of, opens_at, opening, opening_of};
 
 use super::asked::depth_at;
 use super::draw::draw_after;
-use super::lent::Lent;
 use super::state::SearchState;
 use search_candidates::asked::{Asked, Depth};
 use search_candidates::bucket::{Filled, fill};
 use search_candidates::loads::Loads;
 use search_map::map::rows_of;
+use search_rules::pass::Lent;
 
 // Whether candidates are made: the depth is new, and the lists are those of 65 depths.
 fn opens(new: bool, depth: usize, pool: usize, next: usize, end: usize) -> bool
@@ -41,7 +41,7 @@ fn open_depth(
     asked: Depth,
     bucket: &mut [u8],
 ) -> Filled
-    ensures { let lent = lent_now lent.now in
+    ensures { let lent = pass_lent lent.now in
         let looked = looked_up lent.map lent.whole asked.choice in
         let depth_asked = asked_of lent.day.counts asked lent.day.rows looked lent.sets (loads_in state.now) in
         written result.count result.drew bucket.new ≡ open_of depth_asked depth bucket.old }
@@ -80,7 +80,7 @@ pub fn open_if_new(
 ) -> usize
     ensures { let at = state.now in
         opening result candidates.new next.new end.new
-        ≡ opening_of (lent_now lent.now) (loads_in at) at.is_new at.depth draw at.remaining
+        ≡ opening_of (pass_lent lent.now) (loads_in at) at.is_new at.depth draw at.remaining
         candidates.old next.old end.old }
 {
     let depth = state.depth;

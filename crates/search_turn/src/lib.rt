@@ -6,7 +6,6 @@ mod amount;
 mod asked;
 pub mod depth;
 mod draw;
-pub mod lent;
 pub mod plan;
 pub mod shape;
 pub mod sight;
