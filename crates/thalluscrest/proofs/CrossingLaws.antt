@@ -1,11 +1,33 @@
 -- What a call tells in other languages follows from what the library's own call answers and leaves.
-use mathlib.Core.Path.{◌≡◌, ◌∙◌, ap}
+use mathlib.Core.Path.{◌≡◌, refl, ◌∙◌, ap}
 use mathlib.Core.List.{List}
 use Prim.Native.Nat.{ℕ}
 use Rattle.thalluscrest_figures.specs.Crossing.{NumberAndFigures, answer, told_figures, Crossed, crossed, across}
-use Rattle.thalluscrest_figures.specs.Layouts.{reduction_figures, reduced_across}
-use Rattle.day_rows.specs.Told.{Told, Outcome, outcome}
+use Rattle.thalluscrest_figures.specs.Layouts.{reduction_figures, reduced_across, search_figures, page_figures, paged_figures}
+use Rattle.std.specs.Prelude.{Result, Ok, Err}
+use Rattle.day_rows.specs.Told.{Told, Outcome, outcome, tells}
+use Rattle.day_rows.specs.declared.refusal.Refusal.{Refusal}
+use Rattle.list_all.specs.Outcome.{list_tells, listed_tells}
+use Rattle.list_all.specs.declared.list_plans.Listed.{Listed}
+use Rattle.list_starts.specs.PageAnswer.{page_tells, paged_tells}
+use Rattle.list_starts.specs.declared.page_end.Paged.{Paged}
+use Rattle.search_meaning.specs.Calls.{settled, searched_tells}
+use Rattle.search_meaning.specs.declared.answer.Searched.{Searched}
 use Rattle.reduce.specs.declared.Reduction.{Reduction}
+
+-- ---- an enum's figures are those of what it tells
+
+pub searched-through : (answer : Result Searched Refusal) → told_figures (λ searched. search_figures (settled searched)) (tells answer) ≡ told_figures search_figures (searched_tells answer)
+searched-through (Ok searched) = refl
+searched-through (Err why) = refl
+
+pub listed-through : (answer : Result Listed Refusal) → told_figures (λ listed. page_figures (list_tells listed)) (tells answer) ≡ told_figures page_figures (listed_tells answer)
+listed-through (Ok listed) = refl
+listed-through (Err why) = refl
+
+pub paged-through : (answer : Result Paged Refusal) → told_figures (λ paged. paged_figures (page_tells paged)) (tells answer) ≡ told_figures paged_figures (paged_tells answer)
+paged-through (Ok paged) = refl
+paged-through (Err why) = refl
 
 -- an answer with the buffers that the call left
 abbrev leaving : {B : Type 0} → B → NumberAndFigures → Crossed B

@@ -4,7 +4,7 @@ use Rattle.std.specs.Prelude.{List, ℕ, length}
 use Rattle.day_rows.specs.declared.check.Counts.{Counts}
 use Rattle.sets_analysis.specs.declared.day.SetsCounts as sets
 use Rattle.day_file.specs.declared.counts.FileCounts as file
-use Rattle.search_day.specs.declared.plan.PlanCounts.{PlanCounts}
+use Rattle.search_day.specs.declared.given.PlanCounts.{PlanCounts}
 use Rattle.search_meaning.specs.declared.counts.SearchCounts.{SearchCounts}
 
 -- the counts of rows: for reduction, plan check, own map and listing

@@ -9,11 +9,13 @@ ghost use Rattle.day_write.specs.Calls.{write_of};
 ghost use Rattle.thalluscrest.specs.Counts.{counts_of, day_counts_of};
 
 use day_file::counts::FileCounts;
+use day_file::day::FileDay;
 use day_file::read::read_day;
 use day_rows::check::Counts;
 use day_write::write::write_day;
 use reduce::reduce;
-use thalluscrest_figures::day::{put_read, put_reduced, put_written};
+use thalluscrest_figures::crossing::put;
+use thalluscrest_figures::day::put_reduced;
 
 // Reads a day file into pools lent at their full limits.
 #[unsafe(no_mangle)]
@@ -36,7 +38,7 @@ pub extern "C" fn thalluscrest_read_day(
         crossed result figures.new after ≡ across day_figures (read_of file.now before) }
 {
     let read = read_day(file, mins, maxs, optional, levels, preferences, rows);
-    put_read(read, figures)
+    put(read, figures)
 }
 
 // Writes a day's file into a pool lent at its full limit.
@@ -68,7 +70,7 @@ pub extern "C" fn thalluscrest_write_day(
         levels: levels.len(),
         rows: rows.len(),
     };
-    let written = write_day(
+    let day = FileDay {
         counts,
         mins,
         maxs,
@@ -76,9 +78,9 @@ pub extern "C" fn thalluscrest_write_day(
         levels,
         preferences,
         rows,
-        file,
-    );
-    put_written(written, figures)
+    };
+    let written = write_day(&day, file);
+    put(written, figures)
 }
 
 // Reduces given rows into a pool lent at its full limit.

@@ -14,10 +14,12 @@ ghost use Rattle.thalluscrest.specs.Pages.{PageCrosses};
 use day_rows::check::Counts;
 use list_all::list_plans::list_plans;
 use list_page::page::list_page;
+use list_starts::asked::Asked;
+use plan_check::day::Day;
 use plan_check::plan_check::check_plan;
-use roster_check::roster_check::check_roster;
+use roster_check::roster_check::{Sheet, check_roster};
 use thalluscrest_figures::counts::roster_counts;
-use thalluscrest_figures::plan::{put_checked, put_listed, put_paged, put_roster};
+use thalluscrest_figures::crossing::put;
 
 // Checks a plan.
 #[unsafe(no_mangle)]
@@ -44,8 +46,15 @@ pub extern "C" fn thalluscrest_check_plan(
         choosers,
         rows: rows.len(),
     };
-    let checked = check_plan(counts, mins, maxs, optional, rows, plan);
-    put_checked(checked, figures)
+    let day = Day {
+        counts,
+        mins,
+        maxs,
+        optional,
+        rows,
+    };
+    let checked = check_plan(&day, plan);
+    put(checked, figures)
 }
 
 // Checks a roster.
@@ -74,7 +83,7 @@ pub extern "C" fn thalluscrest_check_roster(
         answer result figures.new ≡ told_figures roster_figures (roster_check_of sheet) }
 {
     let counts = roster_counts(choices, slots, choosers, levels, rows, assignment_rows);
-    let checked = check_roster(
+    let sheet = Sheet {
         counts,
         mins,
         maxs,
@@ -84,8 +93,9 @@ pub extern "C" fn thalluscrest_check_roster(
         assignment_rows,
         plan,
         roster,
-    );
-    put_roster(checked, figures)
+    };
+    let checked = check_roster(&sheet);
+    put(checked, figures)
 }
 
 // Lists a page of all the plans.
@@ -116,10 +126,16 @@ pub extern "C" fn thalluscrest_list_plans(
         choosers,
         rows: rows.len(),
     };
-    let listed = list_plans(
-        counts, mins, maxs, optional, rows, first, room, budget, buffer,
-    );
-    put_listed(listed, figures)
+    let day = Day {
+        counts,
+        mins,
+        maxs,
+        optional,
+        rows,
+    };
+    let asked = Asked { first, room };
+    let listed = list_plans(&day, &asked, budget, buffer);
+    put(listed, figures)
 }
 
 // Lists a page of plans, and stops where the list goes on past it.
@@ -150,8 +166,14 @@ pub extern "C" fn thalluscrest_list_page(
         choosers,
         rows: rows.len(),
     };
-    let paged = list_page(
-        counts, mins, maxs, optional, rows, first, room, budget, buffer,
-    );
-    put_paged(paged, figures)
+    let day = Day {
+        counts,
+        mins,
+        maxs,
+        optional,
+        rows,
+    };
+    let asked = Asked { first, room };
+    let paged = list_page(&day, &asked, budget, buffer);
+    put(paged, figures)
 }

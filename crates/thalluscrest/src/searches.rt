@@ -10,10 +10,14 @@ ghost use Rattle.search_meaning.specs.Given.{given_of};
 ghost use Rattle.thalluscrest.specs.Counts.{search_counts_of, plan_counts_of};
 
 use search::search::search;
-use search_day::plan::{PlanCounts, plan_day};
+use search_day::given::{PlanCounts, PlanGiven};
+use search_day::plan::plan_day;
+use search_day::settings::PlanSettings;
+use search_map::map::Map;
 use search_meaning::counts::SearchCounts;
+use search_meaning::given::Given;
 use thalluscrest_figures::codes::{analysis_by, is_yes, settings_by};
-use thalluscrest_figures::search::put_searched;
+use thalluscrest_figures::crossing::put;
 
 // Searches with everything lent: a map, orders and draws.
 #[unsafe(no_mangle)]
@@ -62,24 +66,26 @@ pub extern "C" fn thalluscrest_search<'a>(
         numbers: count,
     };
     let settings = settings_by(full, analysis, at_last_level, pass_budget, total_budget);
-    let searched = search(
+    let map = Map {
+        starts,
+        lengths,
+        numbers,
+    };
+    let given = Given {
         counts,
-        settings,
         mins,
         maxs,
         optional,
         levels,
         preferences,
         rows,
-        starts,
-        lengths,
-        numbers,
+        map,
         whole,
         orders,
         draws,
-        plan,
-    );
-    put_searched(searched, figures)
+    };
+    let searched = search(&given, settings, plan);
+    put(searched, figures)
 }
 
 // Plans a day: the full search with its own map.
@@ -118,12 +124,8 @@ pub extern "C" fn thalluscrest_plan_day(
         levels: levels.len(),
         rows: rows.len(),
     };
-    let searched = plan_day(
+    let given = PlanGiven {
         counts,
-        analysis_by(analysis),
-        is_yes(at_last_level),
-        pass_budget,
-        total_budget,
         mins,
         maxs,
         optional,
@@ -132,7 +134,13 @@ pub extern "C" fn thalluscrest_plan_day(
         rows,
         orders,
         draws,
-        plan,
-    );
-    put_searched(searched, figures)
+    };
+    let settings = PlanSettings {
+        analysis: analysis_by(analysis),
+        at_last_level: is_yes(at_last_level),
+        pass_budget,
+        total_budget,
+    };
+    let searched = plan_day(&given, settings, plan);
+    put(searched, figures)
 }

@@ -13,10 +13,10 @@ ghost use Rattle.thalluscrest.specs.Counts.{counts_of, sets_counts_of};
 use day_rows::check::Counts;
 use search_map::own_map::own_map;
 use sets_analysis::analysis::analyze;
-use sets_analysis::day::SetsCounts;
+use sets_analysis::day::{SetsCounts, SetsDay};
 use sets_levels::level_list::level_list;
 use thalluscrest_figures::codes::analysis_by;
-use thalluscrest_figures::search::{put_level, put_mapped, put_sets};
+use thalluscrest_figures::crossing::put;
 
 // Analyses a day: its critical sets into pools lent at their full limits, and the bound.
 #[unsafe(no_mangle)]
@@ -45,16 +45,14 @@ pub extern "C" fn thalluscrest_analyze(
         choosers,
         levels: levels.len(),
     };
-    let analyzed = analyze(
+    let day = SetsDay {
         counts,
-        analysis_by(analysis),
         mins,
         levels,
         preferences,
-        masks,
-        set_levels,
-    );
-    put_sets(analyzed, figures)
+    };
+    let analyzed = analyze(&day, analysis_by(analysis), masks, set_levels);
+    put(analyzed, figures)
 }
 
 // Makes a level's list of the first sets of the pools, into a pool lent at its full limit.
@@ -73,7 +71,7 @@ pub extern "C" fn thalluscrest_level_list(
         crossed result figures.new list.new ≡ across one_figure listed }
 {
     let listed = level_list(levels, limit, masks, set_levels, count, list);
-    put_level(listed, figures)
+    put(listed, figures)
 }
 
 // Makes the own map of rows, into pools lent at their full limits.
@@ -101,5 +99,5 @@ pub extern "C" fn thalluscrest_own_map(
         rows: rows.len(),
     };
     let mapped = own_map(counts, rows, starts, lengths, numbers);
-    put_mapped(mapped, figures)
+    put(mapped, figures)
 }

@@ -1,11 +1,15 @@
 // The figures of a day read, written and reduced.
 ghost use Rattle.std.specs.Prelude.{◌≡◌, [], ◌∷◌, ◌≤◌, length};
+ghost use Rattle.day_rows.specs.Told.{tells};
+ghost use Rattle.thalluscrest_figures.specs.Crossing.{answer, told_figures};
 ghost use Rattle.thalluscrest_figures.specs.Layouts.{day_figures, one_figure, reduction_figures};
 ghost use Rattle.thalluscrest_figures.specs.steps.Kinds.{of_kinds};
 
 use super::codes::as_figure;
 use super::crossing::Crosses;
+use super::refusal::put_refusal;
 use day_file::counts::FileCounts;
+use day_rows::refusal::Refusal;
 use day_rows::row::Row;
 use reduce::Reduction;
 
@@ -61,30 +65,28 @@ fn count_kinds(low: u16, high: u16, rows: &[u64]) -> usize
     count
 }
 
-// A reduction with the pool that holds its rows.
-#[derive(Clone, Copy)]
-pub struct InPool<'a> {
-    pub reduction: Reduction,
-    pub pool: &'a [u64],
-}
-
-// A reduction: its rows, whether slots clash, and how many of the rows in the pool are the search's and the
-// roster's.
-impl Crosses for InPool<'_> {
-    ghost layout = { λ given. reduction_figures given.pool.now given.reduction };
-
-    fn figures(self) -> [u64; 8] {
-        let searched = count_kinds(1, 6, self.pool);
-        let seated = count_kinds(10, 13, self.pool);
-        [
-            self.reduction.count as u64,
-            as_figure(self.reduction.clash),
-            searched as u64,
-            seated as u64,
-            0,
-            0,
-            0,
-            0,
-        ]
+// Puts the figures of a reduction: its rows, whether slots clash, and how many of the rows in the pool are
+// the search's and the roster's. The pool counts too, so that its layout isn't the answer's alone.
+pub fn put_reduced(reduced: Result<Reduction, Refusal>, pool: &[u64], figures: &mut [u64; 8]) -> u8
+    ensures { let layout = reduction_figures pool.now in
+        answer result figures.new ≡ told_figures layout (tells reduced) }
+{
+    match reduced {
+        Ok(reduction) => {
+            let searched = count_kinds(1, 6, pool);
+            let seated = count_kinds(10, 13, pool);
+            *figures = [
+                reduction.count as u64,
+                as_figure(reduction.clash),
+                searched as u64,
+                seated as u64,
+                0,
+                0,
+                0,
+                0,
+            ];
+            0
+        }
+        Err(why) => put_refusal(why, figures),
     }
 }

@@ -4,4 +4,4 @@ use Rattle.thalluscrest.proofs.CrossingLaws.{crosses}
 use Rattle.thalluscrest.proofs.days.thalluscrest_read_day.Goals as goal
 
 pub returns : goal.returns
-returns c = crosses day_figures _ _ c.put_read.ensures c.read_day-read.ensures
+returns c = crosses day_figures _ _ c.put.ensures c.read_day-read.ensures

@@ -4,4 +4,4 @@ use Rattle.thalluscrest.proofs.CrossingLaws.{crosses}
 use Rattle.thalluscrest.proofs.days.thalluscrest_write_day.Goals as goal
 
 pub returns : goal.returns
-returns c = crosses one_figure _ _ c.put_written.ensures c.write_day-written.ensures
+returns c = crosses one_figure _ _ c.put.ensures c.write_day-written.ensures

@@ -5,4 +5,4 @@ use Rattle.thalluscrest_figures.specs.Layouts.{check_figures}
 use Rattle.thalluscrest.proofs.plans.thalluscrest_check_plan.Goals as goal
 
 pub returns : goal.returns
-returns c = c.put_checked.ensures ∙ ap (told_figures check_figures) c.check_plan-checked.ensures
+returns c = c.put.ensures ∙ ap (told_figures check_figures) c.check_plan-checked.ensures

@@ -10,7 +10,7 @@ use Rattle.thalluscrest.proofs.plans.thalluscrest_check_roster.Goals as goal
 pub returns : goal.returns
 returns c =
     let s = c in
-    c.put_roster.ensures
+    c.put.ensures
     ∙ ap (told_figures roster_figures)
     (c.check_roster-checked.ensures
     ∙ ap (λ (counts : RosterCounts). roster_check_of (sheet_of counts s.args.mins.now s.args.maxs.now s.args.levels.now s.args.preferences.now s.args.rows.now s.args.assignment_rows.now s.args.plan.now s.args.roster.now))

@@ -5,4 +5,4 @@ use Rattle.thalluscrest.proofs.CrossingLaws.{crosses}
 use Rattle.thalluscrest.proofs.sets.thalluscrest_analyze.Goals as goal
 
 pub returns : goal.returns
-returns c = rw (sym c.analysis_by.ensures) (crosses sets_figures _ _ c.put_sets.ensures c.analyze-analyzed.ensures)
+returns c = rw (sym c.analysis_by.ensures) (crosses sets_figures _ _ c.put.ensures c.analyze-analyzed.ensures)

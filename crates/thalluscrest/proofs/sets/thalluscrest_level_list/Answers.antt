@@ -4,4 +4,4 @@ use Rattle.thalluscrest.proofs.CrossingLaws.{crosses}
 use Rattle.thalluscrest.proofs.sets.thalluscrest_level_list.Goals as goal
 
 pub returns : goal.returns
-returns c = crosses one_figure _ _ c.put_level.ensures c.level_list-listed.ensures
+returns c = crosses one_figure _ _ c.put.ensures c.level_list-listed.ensures

@@ -4,4 +4,4 @@ use Rattle.thalluscrest.proofs.CrossingLaws.{crosses}
 use Rattle.thalluscrest.proofs.sets.thalluscrest_own_map.Goals as goal
 
 pub returns : goal.returns
-returns c = crosses one_figure _ _ c.put_mapped.ensures c.own_map-mapped.ensures
+returns c = crosses one_figure _ _ c.put.ensures c.own_map-mapped.ensures
