@@ -64,10 +64,7 @@ fn list_agrees(bytes: &[u8], at: usize, limit: u16, sets: &Sets) -> bool {
         sets.count,
         &mut list,
     );
-    match answer {
-        Ok(listed) => members_agree(bytes, at, listed, &list),
-        Err(_) => false,
-    }
+    matches!(answer, Ok(listed) if members_agree(bytes, at, listed, &list))
 }
 
 // Whether each level's list is the Rust's, and after them that of the limit asked.

@@ -2,10 +2,11 @@
 // reduced and listed page by page.
 #![tactic(auto)]
 
-use day_file::read::{Read, read_day};
+use day_file::read::read_day;
 use day_rows::check::Counts;
 use listed::{list_day, tell_differ};
-use reduce::{Reduced, reduce};
+use plan_check::day::Day;
+use reduce::{Reduction, reduce};
 use std::io;
 use test_cases::{first, open_read, read_full};
 
@@ -22,30 +23,24 @@ fn listing_rows(rows: &[u64]) -> usize {
 }
 
 // Reduces a day, and lists it by the listing's part of its reduced rows.
-fn reduce_day(
-    rt: &impl Print,
-    counts: Counts,
-    mins: &[u16],
-    maxs: &[u16],
-    optional: &[u8],
-    rows: &[u64],
-) -> io::Result<()> {
+fn reduce_day(rt: &impl Print, day: &Day) -> io::Result<()> {
     let mut pool = [0u64; 1024];
-    let reduced = reduce(counts, rows, &mut pool);
-    let Reduced::Rows(reduction) = reduced else {
+    let Ok(
+        Reduction {
+            count,
+            clash: false,
+        },
+    ) = reduce(day.counts, day.rows, &mut pool)
+    else {
         return tell_differ(rt);
     };
-    if reduction.clash {
-        return tell_differ(rt);
-    }
-    let searched = listing_rows(first(&pool, reduction.count));
-    let with_rows = Counts {
-        choices: counts.choices,
-        slots: counts.slots,
-        choosers: counts.choosers,
-        rows: searched,
+    let rows = listing_rows(first(&pool, count));
+    let reduced = Day {
+        counts: Counts { rows, ..day.counts },
+        rows: first(&pool, rows),
+        ..*day
     };
-    list_day(rt, with_rows, mins, maxs, optional, first(&pool, searched))
+    list_day(rt, &reduced)
 }
 
 // Reads the day of a file, and reduces and lists it.
@@ -65,17 +60,17 @@ fn read_file(rt: &impl Print, file: &[u8]) -> io::Result<()> {
         &mut preferences,
         &mut rows,
     );
-    let Read::Day(counts) = read else {
+    let Ok(counts) = read else {
         return tell_differ(rt);
     };
-    reduce_day(
-        rt,
-        counts.for_rows(),
-        first(&mins, counts.choices),
-        first(&maxs, counts.choices),
-        first(&optional, counts.choices),
-        first(&rows, counts.rows),
-    )
+    let day = Day {
+        counts: counts.for_rows(),
+        mins: first(&mins, counts.choices),
+        maxs: first(&maxs, counts.choices),
+        optional: first(&optional, counts.choices),
+        rows: first(&rows, counts.rows),
+    };
+    reduce_day(rt, &day)
 }
 
 fn main(rt: HostRuntime) -> io::Result<()> {

@@ -1,84 +1,74 @@
 // A search that the oracle answered: a whole day, its map own, lent or missing, its slices at the lengths
 // that the counts give.
-use search_map::own_map::{Mapped, own_map};
+use search_map::map::Map;
+use search_map::own_map::own_map;
 use search_meaning::counts::{SearchCounts, row_counts};
 use test_cases::parts::{after, count_up, rows, words};
 use test_cases::{byte, first, plus, word};
 use test_search_cases::answer::is_refusal;
 use test_search_cases::call;
-use test_search_cases::records::{
-    asked_at, counts_of, lengths_at, places_at, read_entries, settings_at, with_numbers,
-};
+use test_search_cases::records::{asked_at, case_at, counts_of, read_entries, with_numbers};
 
 // Whether a case is answered as told whose rows and map are read; orders, draws, start and budgets stand from
 // a place on.
-fn agrees_at(
-    bytes: &[u8],
-    at: usize,
-    counts: SearchCounts,
-    rows: &[u64],
-    starts: &[u16],
-    sizes: &[u16],
-    numbers: &[u16],
-) -> bool {
+fn agrees_at(bytes: &[u8], at: usize, counts: SearchCounts, rows: &[u64], map: Map) -> bool {
     let mut whole = [0u16; 1024];
     count_up(&mut whole);
-    call::agrees(
-        bytes,
-        counts,
-        settings_at(bytes, at, counts),
-        lengths_at(bytes, at, counts),
-        places_at(bytes, at, counts),
+    let rows = call::Rows {
         rows,
-        starts,
-        sizes,
-        numbers,
-        first(&whole, counts.rows),
-    )
+        map,
+        whole: first(&whole, counts.rows),
+    };
+    call::agrees(bytes, &case_at(bytes, at, counts), &rows)
 }
 
 // Whether a case with a lent map is answered as told: its entries and numbers stand from a place on.
 fn lent_agrees(bytes: &[u8], from: usize, counts: SearchCounts, rows: &[u64]) -> bool {
     let mut starts = [65535u16; 64];
-    let mut sizes = [0u16; 64];
+    let mut lengths = [0u16; 64];
     let mut numbers = [0u16; 10_240];
-    let at = read_entries(bytes, from, counts.choices, &mut starts, &mut sizes);
-    let count = word(bytes, at) as usize;
+    let at = read_entries(bytes, from, counts.choices, &mut starts, &mut lengths);
+    let count = usize::from(word(bytes, at));
     words(bytes, plus(at, 2), count, &mut numbers);
     let next = after(plus(at, 2), count, 2);
-    let with_map = with_numbers(counts, count);
-    agrees_at(bytes, next, with_map, rows, &starts, &sizes, &numbers)
+    let map = Map {
+        starts: &starts,
+        lengths: &lengths,
+        numbers: &numbers,
+    };
+    agrees_at(bytes, next, with_numbers(counts, count), rows, map)
 }
 
 // Whether a case in which no choice has an entry is answered as told.
 fn bare_agrees(bytes: &[u8], at: usize, counts: SearchCounts, rows: &[u64]) -> bool {
-    let starts = [65535u16; 64];
-    let sizes = [0u16; 64];
-    let numbers = [0u16; 10_240];
-    agrees_at(bytes, at, counts, rows, &starts, &sizes, &numbers)
+    let map = Map {
+        starts: &[65535u16; 64],
+        lengths: &[0u16; 64],
+        numbers: &[0u16; 10_240],
+    };
+    agrees_at(bytes, at, counts, rows, map)
 }
 
 // Whether a case with the own map is answered as told, or its own map has too many numbers as told.
 fn own_agrees(bytes: &[u8], at: usize, counts: SearchCounts, rows: &[u64]) -> bool {
     let mut starts = [0u16; 64];
-    let mut sizes = [0u16; 64];
+    let mut lengths = [0u16; 64];
     let mut numbers = [0u16; 10_240];
     let made = own_map(
         row_counts(counts),
         rows,
         &mut starts,
-        &mut sizes,
+        &mut lengths,
         &mut numbers,
     );
+    let map = Map {
+        starts: &starts,
+        lengths: &lengths,
+        numbers: &numbers,
+    };
     match made {
-        Mapped::Numbers(count) => {
-            let with_map = with_numbers(counts, count);
-            agrees_at(bytes, at, with_map, rows, &starts, &sizes, &numbers)
-        }
-        Mapped::Refused(why) => {
-            let places = places_at(bytes, at, counts);
-            is_refusal(bytes, places.answer, why)
-        }
+        Ok(count) => agrees_at(bytes, at, with_numbers(counts, count), rows, map),
+        Err(why) => is_refusal(bytes, case_at(bytes, at, counts).places.answer, why),
     }
 }
 

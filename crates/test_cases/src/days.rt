@@ -1,5 +1,4 @@
-// What records of days share: the counts at their front, how they write a refusal, and a page of a day's
-// plans.
+// What records of days share: the counts at their front, and how they write a refusal.
 use super::{byte, plus, word};
 use day_rows::check::Counts;
 use day_rows::refusal::Refusal;
@@ -45,9 +44,4 @@ pub fn is_refusal(bytes: &[u8], at: usize, why: Refusal) -> bool {
         row: u64::from(word(bytes, plus(at, 1))),
     };
     told_of(why) == told
-}
-
-// How many plans a page from the first number on holds.
-pub fn on_page(total: u64, first: u64, room: u64) -> u64 {
-    total.saturating_sub(first).min(room)
 }

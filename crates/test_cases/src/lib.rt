@@ -14,6 +14,7 @@ use std::io::Read;
 use std::{fs, io};
 
 pub mod days;
+pub mod pages;
 pub mod parts;
 pub mod replay;
 pub mod texts;
@@ -108,7 +109,7 @@ pub fn word(bytes: &[u8], at: usize) -> u16
     if 0xffff_ffff < at {
         return 0;
     }
-    (byte(bytes, at) as u16) * 256 + (byte(bytes, at + 1) as u16)
+    u16::from(byte(bytes, at)) * 256 + u16::from(byte(bytes, at + 1))
 }
 
 // The eight bytes from a place on, high byte first.
@@ -118,10 +119,10 @@ pub fn number(bytes: &[u8], at: usize) -> u64
     if 0xffff_ffff < at {
         return 0;
     }
-    (word(bytes, at) as u64) * 0x1_0000_0000_0000
-        + (word(bytes, at + 2) as u64) * 0x1_0000_0000
-        + (word(bytes, at + 4) as u64) * 0x1_0000
-        + (word(bytes, at + 6) as u64)
+    u64::from(word(bytes, at)) * 0x1_0000_0000_0000
+        + u64::from(word(bytes, at + 2)) * 0x1_0000_0000
+        + u64::from(word(bytes, at + 4)) * 0x1_0000
+        + u64::from(word(bytes, at + 6))
 }
 
 // Opens a file of the folder that the program runs in; none where it can't be opened.
@@ -173,7 +174,7 @@ fn read_next(file: &mut File, buffer: &mut [u8]) -> Next {
 
 // The length that a record's first four bytes give.
 fn length_of(head: &[u8]) -> usize {
-    (word(head, 0) as usize) * 65_536 + (word(head, 2) as usize)
+    usize::from(word(head, 0)) * 65_536 + usize::from(word(head, 2))
 }
 
 // The tally with what the end of the file adds: a broken record is a difference.

@@ -21,13 +21,6 @@ pub fn words(bytes: &[u8], at: usize, n: usize, pool: &mut [u16]) {
     }
 }
 
-// The n words of a pool from a place of its own on, read from a place of the record on.
-pub fn words_to(bytes: &[u8], at: usize, n: usize, pool: &mut [u16], to: usize) {
-    if to <= pool.len() {
-        words(bytes, at, n, &mut pool[to..]);
-    }
-}
-
 // The first n rows of a pool read from a place on.
 pub fn rows(bytes: &[u8], at: usize, n: usize, pool: &mut [u64]) {
     if n <= pool.len() {
@@ -44,7 +37,7 @@ pub fn few_bytes(bytes: &[u8], at: usize, n: usize, pool: &mut [u8]) {
 
 // A draw, of four bytes, from a place on.
 fn draw(bytes: &[u8], at: usize) -> u32 {
-    (word(bytes, at) as u32) * 65536 + (word(bytes, plus(at, 2)) as u32)
+    u32::from(word(bytes, at)) * 65_536 + u32::from(word(bytes, plus(at, 2)))
 }
 
 // Fills a pool with the draws from a place on.

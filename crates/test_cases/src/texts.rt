@@ -3,7 +3,7 @@ use super::{is_filled, plus, same, word};
 
 // The four bytes from a place on, high byte first.
 pub fn length_at(bytes: &[u8], at: usize) -> usize {
-    (word(bytes, at) as usize) * 65_536 + (word(bytes, plus(at, 2)) as usize)
+    usize::from(word(bytes, at)) * 65_536 + usize::from(word(bytes, plus(at, 2)))
 }
 
 // Whether the pool holds the text that stands from a place on with its length before it, and zeros past it.

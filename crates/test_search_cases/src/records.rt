@@ -32,6 +32,16 @@ pub struct Places {
     pub answer: usize,
 }
 
+// A search that a record asks for beside its rows and its map: counts and settings, and how the slices are
+// laid out.
+#[derive(Clone, Copy)]
+pub struct Case {
+    pub counts: SearchCounts,
+    pub settings: Settings,
+    pub lengths: Lengths,
+    pub places: Places,
+}
+
 // The analysis that a code of a record asks for.
 pub fn analysis_of(code: u8) -> Analysis {
     match code {
@@ -51,12 +61,12 @@ pub fn asked_at(counts: SearchCounts) -> usize {
 
 // Where the draws are counted, behind the orders from a place on.
 fn draws_at(bytes: &[u8], at: usize, choices: usize) -> usize {
-    after(plus(at, 2), word(bytes, at) as usize, choices)
+    after(plus(at, 2), usize::from(word(bytes, at)), choices)
 }
 
 // Where the start flag and the budgets stand, behind the draws.
 fn start_at(bytes: &[u8], draws: usize) -> usize {
-    after(plus(draws, 2), word(bytes, draws) as usize, 4)
+    after(plus(draws, 2), usize::from(word(bytes, draws)), 4)
 }
 
 // What a case asks of the search.
@@ -102,26 +112,17 @@ fn places_of(counts: SearchCounts, orders: usize, draws: usize, start: usize) ->
     }
 }
 
-// What a case asks whose orders stand from a place on.
-pub fn settings_at(bytes: &[u8], at: usize, counts: SearchCounts) -> Settings {
+// The search of a case whose orders stand from a place on.
+pub fn case_at(bytes: &[u8], at: usize, counts: SearchCounts) -> Case {
     let draws = draws_at(bytes, at, counts.choices);
-    settings_of(bytes, asked_at(counts), start_at(bytes, draws))
-}
-
-// The lengths of a case whose orders stand from a place on.
-pub fn lengths_at(bytes: &[u8], at: usize, counts: SearchCounts) -> Lengths {
-    let draws = draws_at(bytes, at, counts.choices);
-    lengths_of(
+    let start = start_at(bytes, draws);
+    let orders = usize::from(word(bytes, at));
+    Case {
         counts,
-        word(bytes, at) as usize,
-        word(bytes, draws) as usize,
-    )
-}
-
-// The places of a case whose orders stand from a place on.
-pub fn places_at(bytes: &[u8], at: usize, counts: SearchCounts) -> Places {
-    let draws = draws_at(bytes, at, counts.choices);
-    places_of(counts, at, draws, start_at(bytes, draws))
+        settings: settings_of(bytes, asked_at(counts), start),
+        lengths: lengths_of(counts, orders, usize::from(word(bytes, draws))),
+        places: places_of(counts, at, draws, start),
+    }
 }
 
 // Puts a word at a place of a list, if the list has it.
@@ -165,11 +166,11 @@ pub fn with_numbers(counts: SearchCounts, numbers: usize) -> SearchCounts {
 // The counts at a record's front; the number of the map's numbers comes later.
 pub fn counts_of(bytes: &[u8]) -> SearchCounts {
     SearchCounts {
-        choices: byte(bytes, 0) as usize,
-        slots: byte(bytes, 1) as usize,
-        choosers: byte(bytes, 2) as usize,
-        levels: byte(bytes, 3) as usize,
-        rows: word(bytes, 4) as usize,
+        choices: usize::from(byte(bytes, 0)),
+        slots: usize::from(byte(bytes, 1)),
+        choosers: usize::from(byte(bytes, 2)),
+        levels: usize::from(byte(bytes, 3)),
+        rows: usize::from(word(bytes, 4)),
         numbers: 0,
     }
 }

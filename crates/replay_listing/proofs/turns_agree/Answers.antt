@@ -4,4 +4,4 @@ use Rattle.replay_listing.proofs.turns_agree.Goals as goal
 
 pub slice_bounds-lent-end-2 : goal.slice_bounds-lent-end-2
 slice_bounds-lent-end-2 c =
-    sym (length-take-le c.times-size.result c.args.buffer.now c.if-buffer-size.false)
+    sym (length-take-le c.bytes_of-size.result c.args.buffer.now c.if-buffer-size.false)

@@ -11,4 +11,4 @@ returns-then-at-gt4294967295 c =
 pub returns : goal.returns
 unfolding number_at
 returns c =
-    rw (le-ltb _ _ c.if-at-gt4294967295.false, c.word.ensures, c.word-2.ensures, c.word-3.ensures, c.word-4.ensures)
+    rw (le-ltb _ _ c.if-at-gt4294967295.false, c.from.ensures, c.from-2.ensures, c.from-3.ensures, c.from-4.ensures, c.word.ensures, c.word-2.ensures, c.word-3.ensures, c.word-4.ensures)

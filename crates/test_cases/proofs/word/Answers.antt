@@ -11,4 +11,4 @@ returns-then-at-gt4294967295 c =
 pub returns : goal.returns
 unfolding word_at
 returns c =
-    rw (le-ltb _ _ c.if-at-gt4294967295.false, c.byte.ensures, c.byte-2.ensures)
+    rw (le-ltb _ _ c.if-at-gt4294967295.false, c.from.ensures, c.from-2.ensures, c.byte.ensures, c.byte-2.ensures)
