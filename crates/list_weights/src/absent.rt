@@ -1,5 +1,5 @@
 // Weights of the kinds that the day's end has none of: the linear program says nothing of them.
-ghost use Rattle.std.specs.Prelude.{◌<◌, ◌≤◌, IfSome};
+ghost use Rattle.std.specs.Prelude.{◌≡◌, ◌<◌, ◌≤◌, IfSome, length};
 
 use super::simplex::{WEIGHTS, weight_of};
 
@@ -9,11 +9,12 @@ fn nearer(
     best: Option<usize>,
     kind: usize,
     size: usize,
-    sizes: &[usize; 64],
-    many: &[u16; 64],
+    sizes: &[usize],
+    many: &[u16],
 ) -> Option<usize>
-    requires { (kind < 64) × IfSome best (λ b. b < 64) }
-    ensures { IfSome result (λ r. r < 64) }
+    requires { let known = length sizes.now in
+        (length many.now ≡ known) × ((kind < known) × IfSome best (λ b. b < known)) }
+    ensures { IfSome result (λ r. r < length sizes.now) }
 {
     if many[kind] == 0 {
         return best;
@@ -31,11 +32,11 @@ fn nearer(
 }
 
 // The largest kind that is smaller than a size and that the day's end has choices of, if there is one.
-fn next_smaller(size: usize, known: usize, sizes: &[usize; 64], many: &[u16; 64]) -> Option<usize>
-    requires { known ≤ 64 }
+fn next_smaller(size: usize, sizes: &[usize], many: &[u16]) -> Option<usize>
+    requires { length many.now ≡ length sizes.now }
 {
     let mut best = None;
-    for kind in 0..known {
+    for kind in 0..sizes.len() {
         best = nearer(best, kind, size, sizes, many);
     }
     best
@@ -43,18 +44,12 @@ fn next_smaller(size: usize, known: usize, sizes: &[usize; 64], many: &[u16; 64]
 
 // Gives each kind that the day's end has no choice of the weight of the next
 // smaller kind that it has some of.
-pub(crate) fn weigh_absent(
-    known: usize,
-    sizes: &[usize; 64],
-    many: &[u16; 64],
-    program: &mut [f64; 4416],
-) {
-    if 64 < known {
-        return;
-    }
-    for kind in 0..known {
+pub(crate) fn weigh_absent(sizes: &[usize], many: &[u16], program: &mut [f64; 4416])
+    requires { (length sizes.now ≤ 64) × (length many.now ≡ length sizes.now) }
+{
+    for (kind, size) in sizes.iter().enumerate() {
         if many[kind] == 0 {
-            let weight = match next_smaller(sizes[kind], known, sizes, many) {
+            let weight = match next_smaller(*size, sizes, many) {
                 Some(smaller) => weight_of(smaller, program),
                 None => 0.0,
             };

@@ -6,7 +6,7 @@ ghost use Rattle.list_tables.specs.steps.Tables.{tables_size};
 use super::absent::weigh_absent;
 use super::kinds::{DayKinds, count_kinds, first_of, number_kinds, size_of};
 use super::lightest::{fill_rows, take_lightest, weigh_choices};
-use super::simplex::{bring_column, clear_column, start, weigh_kinds};
+use super::simplex::{COLUMN, bring_column, start, weigh_kinds};
 use day_rows::check::Counts;
 use list_tables::rows::length_known;
 use list_tables::shape::{TABLES, WEIGHTS_START};
@@ -23,7 +23,8 @@ fn weigh_heads(choosers: usize, maxs: &[u16], tables: &mut [u16; TABLES])
     }
 }
 
-// Brings the set that is too light by the weights so far into the basis: false where no set is.
+// Brings the set that is too light by the weights so far into the basis, counted in a column that is emptied
+// first: false where no set is.
 fn bring_in(
     table: usize,
     first: usize,
@@ -33,15 +34,16 @@ fn bring_in(
 ) -> bool
     requires { (table < 4) × (first ≤ length day.now.maxs.now) }
 {
-    weigh_kinds(day.known, program);
-    weigh_choices(table, day.maxs.len(), day.kinds, program, tables);
+    let known = day.sizes.len();
+    weigh_kinds(known, program);
+    weigh_choices(table, day.kinds, program, tables);
     fill_rows(table, first, day, tables);
     if ENOUGH <= tables[(table * 65 + first) * 201 + day.choosers] {
         return false;
     }
-    clear_column(day.known, program);
+    program[COLUMN..COLUMN + known].fill(0.0);
     take_lightest(table, first, day, tables, program);
-    bring_column(day.known, program)
+    bring_column(known, program)
 }
 
 // Brings sets into the basis until none is too light, 60 sets at most.
@@ -65,16 +67,17 @@ fn bring_all(
 fn fit_table(table: usize, slots: usize, day: &DayKinds, tables: &mut [u16; TABLES])
     requires { (table < 4) × (slots ≤ 24) }
 {
-    let choices = day.maxs.len();
     let first = first_of(slots, day.choosers, day.maxs);
-    let mut many = [0u16; 64];
-    count_kinds(first, choices, day.kinds, &mut many);
+    let known = day.sizes.len();
+    let mut counted = [0u16; 64];
+    count_kinds(&day.kinds[first..], &mut counted);
+    let many = &counted[..known];
     let mut program = [0.0f64; 4416];
-    start(day.known, &many, &mut program);
+    start(many, &mut program);
     bring_all(table, first, day, tables, &mut program);
-    weigh_kinds(day.known, &mut program);
-    weigh_absent(day.known, day.sizes, &many, &mut program);
-    weigh_choices(table, choices, day.kinds, &program, tables);
+    weigh_kinds(known, &mut program);
+    weigh_absent(day.sizes, many, &mut program);
+    weigh_choices(table, day.kinds, &program, tables);
 }
 
 // Chooses the weights of a day with choosers: heads in table 1, then in tables 2 and 3 those by which the
@@ -89,9 +92,8 @@ fn fit_day(slots: usize, choosers: usize, maxs: &[u16], tables: &mut [u16; TABLE
     let day = DayKinds {
         choosers,
         maxs,
-        known,
-        sizes: &sizes,
-        kinds: &kinds,
+        sizes: &sizes[..known],
+        kinds: &kinds[..maxs.len()],
     };
     if slots < 2 {
         return;

@@ -1,16 +1,16 @@
 // Choices of one size are of one kind: the linear program has a row for each kind, not for each choice.
-ghost use Rattle.std.specs.Prelude.{◌+◌, ◌≤◌, length};
+ghost use Rattle.std.specs.Prelude.{◌≡◌, ◌+◌, ◌≤◌, length};
 
-// The day that weights are fitted to: its choosers and each choice's maximum; how many kinds the choices make,
-// each kind's size and each choice's kind.
+// The day that weights are fitted to: its choosers, each choice's maximum, each kind's size and each choice's
+// kind.
 #[derive(Clone, Copy)]
 pub(crate) struct DayKinds<'a> {
     pub choosers: usize,
     pub maxs: &'a [u16],
-    pub known: usize,
-    pub sizes: &'a [usize; 64],
-    pub kinds: &'a [usize; 64],
+    pub sizes: &'a [usize],
+    pub kinds: &'a [usize],
     ghost in_range: { (choosers ≤ 200) × (length maxs.now ≤ 64) },
+    ghost of_choices: { (length sizes.now ≤ 64) × (length kinds.now ≡ length maxs.now) },
 }
 
 // How many heads of a choice count in a slot: no more than there are choosers.
@@ -37,14 +37,13 @@ pub(crate) fn first_of(slots: usize, choosers: usize, maxs: &[u16]) -> usize
 }
 
 // The kind of a size among the known ones, the next number for a new size.
-fn kind_of(size: usize, known: usize, sizes: &[usize; 64]) -> usize
-    requires { known ≤ 64 }
-    ensures { result ≤ known }
+fn kind_of(size: usize, sizes: &[usize]) -> usize
+    ensures { result ≤ length sizes.now }
 {
-    sizes[..known]
+    sizes
         .iter()
         .position(|known_size| *known_size == size)
-        .unwrap_or(known)
+        .unwrap_or(sizes.len())
 }
 
 // Numbers the sizes in the order in which the choices bring them: each kind's size, each choice's
@@ -61,7 +60,7 @@ pub(crate) fn number_kinds(
     let mut known = 0;
     for (choice, most) in maxs.iter().enumerate() {
         let size = size_of(*most, choosers);
-        let kind = kind_of(size, known, sizes);
+        let kind = kind_of(size, &sizes[..known]);
         sizes[kind] = size;
         kinds[choice] = kind;
         known = known.max(kind + 1);
@@ -69,11 +68,9 @@ pub(crate) fn number_kinds(
     known
 }
 
-// How many choices of each kind the day's end has.
-pub(crate) fn count_kinds(first: usize, choices: usize, kinds: &[usize; 64], many: &mut [u16; 64])
-    requires { (first ≤ choices) × (choices ≤ 64) }
-{
-    for kind in &kinds[first..choices] {
+// How many choices of each kind the day's end has, by the kinds of its choices.
+pub(crate) fn count_kinds(kinds: &[usize], many: &mut [u16; 64]) {
+    for kind in kinds {
         if *kind < 64 {
             many[*kind] = many[*kind].wrapping_add(1);
         }

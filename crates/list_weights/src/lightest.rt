@@ -16,14 +16,13 @@ fn parts_of(weight: f64) -> u16 {
 // Gives each choice the weight of its kind in a table.
 pub(crate) fn weigh_choices(
     table: usize,
-    choices: usize,
-    kinds: &[usize; 64],
+    kinds: &[usize],
     program: &[f64; 4416],
     tables: &mut [u16; TABLES],
 )
-    requires { (table < 4) × (choices ≤ 64) }
+    requires { (table < 4) × (length kinds.now ≤ 64) }
 {
-    for (choice, kind) in kinds[..choices].iter().enumerate() {
+    for (choice, kind) in kinds.iter().enumerate() {
         tables[WEIGHTS_START + table * 64 + choice] = parts_of(weight_of(*kind, program));
     }
 }

@@ -4,7 +4,9 @@
 // are packed as the choices allow.
 // The program's numbers stand in rows of 64: the 64 rows of the basis's inverse,
 // then those that are named here.
-ghost use Rattle.std.specs.Prelude.{◌<◌, ◌≤◌, IfSome};
+// A function that takes how many kinds are known uses so many numbers of several rows: they aren't one part of
+// the program, so the count stands beside it.
+ghost use Rattle.std.specs.Prelude.{◌≡◌, ◌<◌, ◌≤◌, IfSome, length};
 
 // How much of each column of the basis is packed.
 const VALUES: usize = 4096;
@@ -22,13 +24,12 @@ pub(crate) const COLUMN: usize = 4288;
 const TURNED: usize = 4352;
 
 // Writes the program's start: no set is packed, every choice is left over.
-pub(crate) fn start(known: usize, many: &[u16; 64], program: &mut [f64; 4416]) {
-    if 64 < known {
-        return;
-    }
-    for kind in 0..known {
+pub(crate) fn start(many: &[u16], program: &mut [f64; 4416])
+    requires { length many.now ≤ 64 }
+{
+    for (kind, count) in many.iter().enumerate() {
         program[kind * 65] = 1.0;
-        program[VALUES + kind] = f64::from(many[kind]);
+        program[VALUES + kind] = f64::from(*count);
     }
 }
 
@@ -44,10 +45,9 @@ fn kind_weight(kind: usize, known: usize, program: &[f64; 4416]) -> f64
 }
 
 // Writes the weights of all kinds by the sets that are packed.
-pub(crate) fn weigh_kinds(known: usize, program: &mut [f64; 4416]) {
-    if 64 < known {
-        return;
-    }
+pub(crate) fn weigh_kinds(known: usize, program: &mut [f64; 4416])
+    requires { known ≤ 64 }
+{
     for kind in 0..known {
         program[WEIGHTS + kind] = kind_weight(kind, known, program);
     }
@@ -61,21 +61,11 @@ pub(crate) fn weight_of(kind: usize, program: &[f64; 4416]) -> f64 {
     program[WEIGHTS + kind]
 }
 
-// Empties the set that comes into the basis.
-pub(crate) fn clear_column(known: usize, program: &mut [f64; 4416]) {
-    if 64 < known {
-        return;
-    }
-    program[COLUMN..COLUMN + known].fill(0.0);
-}
-
 // One number of the set that comes into the basis, by the columns of the basis.
-fn turned_at(row: usize, known: usize, program: &[f64; 4416]) -> f64
-    requires { (row < 64) × (known ≤ 64) }
-{
+fn turned_at(row: &[f64], column: &[f64]) -> f64 {
     let mut sum = 0.0;
-    for kind in 0..known {
-        sum += program[row * 64 + kind] * program[COLUMN + kind];
+    for (share, count) in row.iter().zip(column) {
+        sum += *share * *count;
     }
     sum
 }
@@ -85,7 +75,9 @@ fn turn_column(known: usize, program: &mut [f64; 4416])
     requires { known ≤ 64 }
 {
     for row in 0..known {
-        program[TURNED + row] = turned_at(row, known, program);
+        let numbers: &[f64] = program;
+        let column = &numbers[COLUMN..COLUMN + known];
+        program[TURNED + row] = turned_at(&numbers[row * 64..row * 64 + known], column);
     }
 }
 
@@ -99,14 +91,14 @@ fn ratio_of(value: f64, turned: f64) -> f64 {
 }
 
 // The column that is used up first and leaves the basis, if there is one.
-fn leaving_row(known: usize, program: &[f64; 4416]) -> Option<usize>
-    requires { known ≤ 64 }
-    ensures { IfSome result (λ row. row < 64) }
+fn leaving_row(values: &[f64], turned: &[f64]) -> Option<usize>
+    requires { length turned.now ≡ length values.now }
+    ensures { IfSome result (λ row. row < length values.now) }
 {
     let mut leaving = None;
     let mut least = 1.0e18;
-    for row in 0..known {
-        let ratio = ratio_of(program[VALUES + row], program[TURNED + row]);
+    for (row, value) in values.iter().enumerate() {
+        let ratio = ratio_of(*value, turned[row]);
         if ratio < least {
             least = ratio;
             leaving = Some(row);
@@ -154,12 +146,13 @@ fn pivot(row: usize, known: usize, program: &mut [f64; 4416])
 }
 
 // Brings the set into the basis in place of the column that is used up first: false where none is.
-pub(crate) fn bring_column(known: usize, program: &mut [f64; 4416]) -> bool {
-    if 64 < known {
-        return false;
-    }
+pub(crate) fn bring_column(known: usize, program: &mut [f64; 4416]) -> bool
+    requires { known ≤ 64 }
+{
     turn_column(known, program);
-    let Some(row) = leaving_row(known, program) else {
+    let numbers: &[f64] = program;
+    let values = &numbers[VALUES..VALUES + known];
+    let Some(row) = leaving_row(values, &numbers[TURNED..TURNED + known]) else {
         return false;
     };
     pivot(row, known, program);
