@@ -26,6 +26,8 @@ pub fn smaller_entry(entry: u16, weight: usize) -> u16
 }
 
 // Writes the row after the last choice.
+// The tables stand whole with the row's place and its count of entries, here and in fill_row, which reads the
+// row after the one that it writes.
 pub(crate) fn fill_last(at: usize, entries: usize, tables: &mut [u16; TABLES])
     requires { (at + entries ≤ tables_size) × (length tables.old ≡ tables_size) }
     ensures { tables.new ≡ written entries at last_entry tables.old }

@@ -105,6 +105,7 @@ fn entries_fit(choices: usize, count: usize, map: &Map) -> bool
 }
 
 // Whether every number names a row.
+// The count stands beside the numbers: it may be more than there are, and 0 is read past their end.
 fn numbers_fit(rows: usize, count: usize, numbers: &[u16]) -> bool
     ensures { result ≡ all_below count (λ i. ltb (get_or numbers.now i 0) rows) }
 {

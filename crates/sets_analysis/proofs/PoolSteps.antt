@@ -4,7 +4,7 @@ use mathlib.Core.List.{List, [], ◌∷◌, ◌++◌, map, append-nil}
 use Prim.Native.Nat.{ℕ, zero, suc, ◌+◌, ◌-◌, ◌≤◌, ◌<◌}
 use native.Mathlib.Omega.{arith}
 use borrow.Rule.Slice.PartMut.{put_mid, mid_of, Post-is, mid_len}
-use lib.ListN.{length, get_or, take, set, replicate}
+use lib.ListN.{length, get_or, take, drop, set, replicate, length-append, length-drop, get_or-append}
 use lib.Seq.{get_or-set_same, get_or-set_other, get_or-take, length-take-le, drop-length}
 use Rattle.base_lists.specs.Flat.{list_below}
 use Rattle.base_lists.specs.Pool.{pad}
@@ -53,6 +53,57 @@ front-of {count} {masks} {levels} l =
     let m : length (take count masks) ≡ count = length-take-le count masks (omega (arith, l.few, l.masks-full)) in
     let n : length (take count levels) ≡ count = length-take-le count levels (omega (arith, l.few, l.levels-full)) in
     record { paired = n ∙ sym m; few = omega (arith, m, l.few) }
+
+-- two pools whose first entries were handed on and came back as others
+module _ (kept : ℕ) (masks levels : List ℕ) (within : kept ≤ length masks) (within' : kept ≤ length levels) (part part' : List ℕ)
+    (same : length part ≡ length (take kept masks)) (same' : length part' ≡ length (take kept levels)) where
+  pub back-masks : length (part ++ drop kept masks) ≡ length masks
+  back-masks = let n : length part ≡ kept = same ∙ length-take-le kept masks within in simp (length-append, length-drop) (omega arith)
+
+  pub back-levels : length (part' ++ drop kept levels) ≡ length levels
+  back-levels = let n : length part' ≡ kept = same' ∙ length-take-le kept levels within' in simp (length-append, length-drop) (omega arith)
+
+  -- what holds of the sets that came back holds of the pools' first sets
+  pub back-sets : (count : ℕ) (f : List CriticalSet → List CriticalSet)
+      → (count ≤ length (take kept masks)) × (sets_in count part part' ≡ f (sets_of (take kept masks) (take kept levels)))
+      → (count ≤ kept) × (sets_in count (part ++ drop kept masks) (part' ++ drop kept levels) ≡ f (sets_in kept masks levels))
+  back-sets count f e =
+      let few : count ≤ kept = omega (arith, e.0, length-take-le kept masks within) in
+      let n : length part ≡ kept = same ∙ length-take-le kept masks within in
+      let n' : length part' ≡ kept = same' ∙ length-take-le kept levels within' in (
+        few,
+        sets_ext count (part ++ drop kept masks) (part' ++ drop kept levels) part part' (λ i l. get_or-append part (drop kept masks) 0 i (omega arith)) (λ i l. get_or-append part' (drop kept levels) 0 i (omega arith))
+            ∙ e.1
+            ∙ ap f (sets-front kept masks levels within),
+      )
+
+-- pools that were written are lent as they were, with room for the sets that are there then
+pub lent-on : {masks₀ levels₀ : List ℕ} (count : ℕ) (masks levels : List ℕ) → Lent 0 masks₀ levels₀ → length masks ≡ length masks₀ → length levels ≡ length levels₀ → count ≤ 1024 → Lent count masks levels
+lent-on count masks levels l same same' few =
+    record { masks-full = same ∙ l.masks-full; levels-full = same' ∙ l.levels-full; few = few }
+
+-- so are pools whose first sets were handed on
+module _ {kept : ℕ} {masks levels : List ℕ} (l : Lent kept masks levels) (count : ℕ) (part part' : List ℕ)
+    (same : length part ≡ length (take kept masks)) (same' : length part' ≡ length (take kept levels)) where
+  within-masks : kept ≤ length masks
+  within-masks = omega (arith, l.few, l.masks-full)
+
+  within-levels : kept ≤ length levels
+  within-levels = omega (arith, l.few, l.levels-full)
+
+  pub lent-back : count ≤ length (take kept masks) → Lent count (part ++ drop kept masks) (part' ++ drop kept levels)
+  lent-back few =
+      let n : length (take kept masks) ≡ kept = length-take-le kept masks within-masks in
+      record {
+        masks-full = back-masks kept masks levels within-masks within-levels part part' same same' ∙ l.masks-full;
+        levels-full = back-levels kept masks levels within-masks within-levels part part' same same' ∙ l.levels-full;
+        few = omega (arith, l.few);
+      }
+
+  pub sets-back : (f : List CriticalSet → List CriticalSet)
+      → (count ≤ length (take kept masks)) × (sets_in count part part' ≡ f (sets_of (take kept masks) (take kept levels)))
+      → (count ≤ kept) × (sets_in count (part ++ drop kept masks) (part' ++ drop kept levels) ≡ f (sets_in kept masks levels))
+  sets-back f = back-sets kept masks levels within-masks within-levels part part' same same' count f
 
 -- what is told of such a front is told of the pools' first sets
 pub front-told : {A : Type 0} (f : List CriticalSet → A) {count : ℕ} {masks levels : List ℕ} {a : A} → Lent count masks levels → a ≡ f (sets_of (take count masks) (take count levels))

@@ -5,15 +5,15 @@ use mathlib.Core.List.{List, [], ◌∷◌, ◌++◌, append-nil}
 use Prim.Native.Nat.{ℕ, zero, suc, ◌+◌, ◌-◌, ◌≤◌, ◌<◌}
 use native.Mathlib.Omega.{arith}
 use borrow.Author.Tests.{lt-ltb, le-ltb}
-use lib.ListN.{length, get_or, set, length-set}
-use lib.Seq.{get_or-set_other}
+use lib.ListN.{length, get_or, take, drop, set, length-set}
+use lib.Seq.{get_or-set_other, length-take-le}
 use Rattle.base_lists.specs.Flat.{list_below}
 use Rattle.base_lists.specs.Keep.{keep}
 use Rattle.base_lists.proofs.Keep.{keep_append}
 use Rattle.sets_analysis.specs.Kept.{CriticalSet, critical_set, stays_beside, dropped_at, simplified_from, simplified}
-use Rattle.sets_analysis.specs.Calls.{sets_in}
-use Rattle.sets_analysis.specs.steps.Pools.{Lent, simplified_if}
-use Rattle.sets_analysis.proofs.PoolSteps.{sets-length, sets-at, sets_more, sets-put}
+use Rattle.sets_analysis.specs.Calls.{sets_in, sets_of}
+use Rattle.sets_analysis.specs.steps.Pools.{Front, simplified_if}
+use Rattle.sets_analysis.proofs.PoolSteps.{sets-length, sets-at, sets_more, sets-put, back-sets, back-masks, back-levels}
 
 -- dropping at an index: the sets before place i are judged, the others are as they were
 pub record Drops (here : CriticalSet) (count : ℕ) (masks₀ levels₀ : List ℕ) (stay i : ℕ) (masks levels : List ℕ) : Type 0 where
@@ -122,7 +122,7 @@ module _ (count : ℕ) (masks₀ levels₀ : List ℕ) where
       }
 
   module _ (left index : ℕ) (masks levels : List ℕ) (s : Simplifies count masks₀ levels₀ left index masks levels) where
-    pub simplifies_on : (left' : ℕ) (masks' levels' : List ℕ) → (left' ≤ left) × (sets_in left' masks' levels' ≡ dropped_at index (sets_in left masks levels))
+    simplifies_on : (left' : ℕ) (masks' levels' : List ℕ) → (left' ≤ left) × (sets_in left' masks' levels' ≡ dropped_at index (sets_in left masks levels))
         → index < left → length masks' ≡ length masks → length levels' ≡ length levels → Simplifies count masks₀ levels₀ left' (index + 1) masks' levels'
     simplifies_on left' masks' levels' e h ml ll =
         let z : count - index ≡ suc (count - (index + 1)) = omega (arith, s.fewer) in
@@ -137,18 +137,30 @@ module _ (count : ℕ) (masks₀ levels₀ : List ℕ) where
               ∙ s.same;
         }
 
+    -- the sets at the front are what is left, in the pools' parts that are handed on
+    pub simplifies_part : length levels₀ ≡ length masks₀ → count ≤ length masks₀ → (left' : ℕ) (part part' : List ℕ)
+        → (left' ≤ length (take left masks)) × (sets_in left' part part' ≡ dropped_at index (sets_of (take left masks) (take left levels)))
+        → index < left → length part ≡ length (take left masks) → length part' ≡ length (take left levels)
+        → Simplifies count masks₀ levels₀ left' (index + 1) (part ++ drop left masks) (part' ++ drop left levels)
+    simplifies_part p few left' part part' e h ml ll =
+        let within : left ≤ length masks = omega (arith, s.fewer, s.same-masks) in
+        let within' : left ≤ length levels = omega (arith, s.fewer, s.same-levels) in
+        simplifies_on left' (part ++ drop left masks) (part' ++ drop left levels)
+        (back-sets left masks levels within within' part part' ml ll left' (dropped_at index) e)
+        h
+        (back-masks left masks levels within within' part part' ml ll)
+        (back-levels left masks levels within within' part part' ml ll)
+
     pub simplifies_done : left ≤ index → (left ≤ count) × (sets_in left masks levels ≡ simplified (sets_in count masks₀ levels₀))
     simplifies_done h =
         (s.fewer, sym (simplified-end (count - index) index (sets_in left masks levels) (rw (sets-length left masks levels) h)) ∙ s.same)
 
-    -- the pools are lent on with the sets that are left
-    pub simplifies_lent : Lent count masks₀ levels₀ → Lent left masks levels
-    simplifies_lent l =
-        record {
-          masks-full = s.same-masks ∙ l.masks-full;
-          levels-full = s.same-levels ∙ l.levels-full;
-          few = omega (arith, s.fewer, l.few);
-        }
+    -- the fronts of the pools are handed on with the sets that are left
+    pub simplifies_front : length levels₀ ≡ length masks₀ → count ≤ length masks₀ → count ≤ 1024 → Front (take left masks) (take left levels)
+    simplifies_front p few most =
+        let n : length (take left masks) ≡ left = length-take-le left masks (omega (arith, s.fewer, s.same-masks)) in
+        let n' : length (take left levels) ≡ left = length-take-le left levels (omega (arith, s.fewer, s.same-levels)) in
+        record { paired = n' ∙ sym n; few = omega (arith, s.fewer) }
 
 -- ---- simplified if asked
 

@@ -1,10 +1,10 @@
 // The analysis as a public call: its refusals, lowest number first, the sets and their bound.
-ghost use Rattle.std.specs.Prelude.{◌≡◌, ◌≤◌};
+ghost use Rattle.std.specs.Prelude.{◌≡◌, ◌≤◌, length};
 ghost use Rattle.day_rows.specs.Told.{tells, outcome};
 ghost use Rattle.sets_analysis.specs.SetsDay.{sets_day_lent};
 ghost use Rattle.sets_analysis.specs.Kept.{kept_sets};
-ghost use Rattle.sets_analysis.specs.Calls.{pools, sets_in, sets_kept, day_judged, analysis_of};
-ghost use Rattle.sets_analysis.specs.steps.Pools.{Lent, Fits, cleared_past, simplified_if};
+ghost use Rattle.sets_analysis.specs.Calls.{pools, sets_in, sets_of, sets_kept, day_judged, analysis_of};
+ghost use Rattle.sets_analysis.specs.steps.Pools.{Lent, Front, Fits, cleared_past, simplified_if};
 
 use super::bound::bound_of;
 use super::day::{SetsDay, counts_keep, lengths_keep};
@@ -56,6 +56,7 @@ fn judge(day: &SetsDay, masks: &[u64], set_levels: &[u16]) -> Result<(), Refusal
 }
 
 // Zeroes both pools past their first sets.
+// The count stands beside the pools: the promise speaks of the sets before it too.
 fn clear_past(masks: &mut [u64], levels: &mut [u16], count: usize)
     requires { Lent count masks.old levels.old }
     ensures { (masks.new ≡ cleared_past count masks.old)
@@ -66,16 +67,16 @@ fn clear_past(masks: &mut [u64], levels: &mut [u16], count: usize)
 }
 
 // 'Simplifying, if asked', of the sets at the front of the pools. The answer is how many are left.
-fn simplified_if(asked: bool, masks: &mut [u64], levels: &mut [u16], count: usize) -> usize
-    requires { Lent count masks.old levels.old }
-    ensures { let before = sets_in count masks.old levels.old in
+fn simplified_if(asked: bool, masks: &mut [u64], levels: &mut [u16]) -> usize
+    requires { Front masks.old levels.old }
+    ensures { let before = sets_of masks.old levels.old in
         let after = sets_in result masks.new levels.new in
-        (result ≤ count) × (after ≡ simplified_if asked before) }
+        (result ≤ length masks.old) × (after ≡ simplified_if asked before) }
 {
     if asked {
-        return simplify(masks, levels, count);
+        return simplify(masks, levels);
     }
-    count
+    masks.len()
 }
 
 // The analysis on or simplified, of a day that isn't refused.
@@ -96,7 +97,7 @@ fn analyze_day(
         clear_past(masks, set_levels, 0);
         return Err(Refusal::Sets);
     };
-    let count = simplified_if(simplifies, masks, set_levels, kept);
+    let count = simplified_if(simplifies, &mut masks[..kept], &mut set_levels[..kept]);
     let bound = bound_of(
         day.counts.slots,
         day.levels,

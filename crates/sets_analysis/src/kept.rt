@@ -1,4 +1,5 @@
 // Which sets are kept: 'Levels downwards, choosers upwards'.
+// There is no heap: the pools that are filled stand at their full length, the count of their sets beside them.
 ghost use Rattle.std.specs.Prelude.{◌≡◌, ◌*◌, ◌-◌, ◌≤◌, ◌<◌, length, get_or, MatchOption};
 ghost use Rattle.base_lists.specs.Flat.{list_below};
 ghost use Rattle.base_lists.specs.Keep.{any_of};

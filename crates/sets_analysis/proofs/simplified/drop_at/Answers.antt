@@ -12,7 +12,7 @@ loop-i-preserved-then-not-stays_beside c =
 
 pub loop-i-preserved : goal.loop-i-preserved
 loop-i-preserved c =
-    drops_in _ _ _ _ _ _ _ _ c.loop-i.invariant c.loop-i-test.true (omega (arith, c.requires.0.few, c.requires.0.masks-full)) (omega (arith, c.requires.0.few, c.requires.0.levels-full)) (sym c.stays_beside.ensures ∙ c.if-not-stays_beside.false)
+    drops_in _ _ _ _ _ _ _ _ c.loop-i.invariant c.loop-i-test.true (omega arith) (omega (arith, c.requires.0.paired)) (sym c.stays_beside.ensures ∙ c.if-not-stays_beside.false)
 
 pub shape_of-masks : goal.shape_of-masks
 shape_of-masks c = c.loop-i.invariant.same-masks
