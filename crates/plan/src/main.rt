@@ -3,7 +3,6 @@
 
 use std::io;
 use std::io::Input;
-use text_day::made::Made;
 use text_lines::plan_lines::LONGEST_TEXT;
 use text_lines::program::{front, is_given, read_full};
 use text_plan::text::plan_text;
@@ -19,10 +18,9 @@ fn tell(rt: &(impl Input + Print + Eprint)) -> io::Result<()> {
     let mut file = [0u8; 26_828];
     let size = read_full(&mut rt.reader(), &mut file);
     let mut text = [0u8; LONGEST_TEXT];
-    let told = plan_text(&file[..size], &mut text);
-    match told {
-        Made::Text(size) => rt.write_all(front(&text, size)),
-        Made::Refused(_) => say_expected(rt),
+    match plan_text(&file[..size], &mut text) {
+        Ok(size) => rt.write_all(front(&text, size)),
+        Err(_) => say_expected(rt),
     }
 }
 

@@ -4,8 +4,7 @@
 use std::env::{Env, FillError};
 use std::io;
 use std::io::Input;
-use text_day::made::Made;
-use text_lines::number::{Number, number_of};
+use text_lines::number::number_of;
 use text_lines::program::{front, is_given, read_full};
 use text_plans::text::{LONGEST_TEXT, plans_text};
 
@@ -19,14 +18,13 @@ const ROOM: u64 = 100;
 const BUDGET: u64 = 2_000_000;
 
 // An argument's number, or the default where it isn't given.
-fn argument(rt: &impl Env, at: usize, default: u64) -> Number {
+fn argument(rt: &impl Env, at: usize, default: u64) -> Option<u64> {
     // A longer argument is no number.
     let mut bytes = [0u8; 4096];
-    let count = rt.arg(at, &mut bytes);
-    match count {
+    match rt.arg(at, &mut bytes) {
         Ok(count) => number_of(&bytes[..count]),
-        Err(FillError::TooLong) => Number::None,
-        Err(FillError::NotPresent) => Number::Value(default),
+        Err(FillError::TooLong) => None,
+        Err(FillError::NotPresent) => Some(default),
     }
 }
 
@@ -43,10 +41,9 @@ fn list(rt: &(impl Input + Print + Eprint), first: u64, room: u64, budget: u64) 
     let mut file = [0u8; 26_828];
     let size = read_full(&mut rt.reader(), &mut file);
     let mut text = [0u8; LONGEST_TEXT];
-    let told = plans_text(&file[..size], first, room, budget, &mut text);
-    match told {
-        Made::Text(size) => rt.write_all(front(&text, size)),
-        Made::Refused(_) => say_expected(rt),
+    match plans_text(&file[..size], first, room, budget, &mut text) {
+        Ok(size) => rt.write_all(front(&text, size)),
+        Err(_) => say_expected(rt),
     }
 }
 
@@ -54,13 +51,13 @@ fn main(rt: HostRuntime) -> io::Result<()> {
     if is_given(&rt, 4) {
         return say_expected(&rt);
     }
-    let Number::Value(first) = argument(&rt, 1, FIRST) else {
+    let Some(first) = argument(&rt, 1, FIRST) else {
         return say_expected(&rt);
     };
-    let Number::Value(room) = argument(&rt, 2, ROOM) else {
+    let Some(room) = argument(&rt, 2, ROOM) else {
         return say_expected(&rt);
     };
-    let Number::Value(budget) = argument(&rt, 3, BUDGET) else {
+    let Some(budget) = argument(&rt, 3, BUDGET) else {
         return say_expected(&rt);
     };
     list(&rt, first, room, budget)

@@ -5,7 +5,6 @@ use std::io;
 use test_cases::replay::replay_all;
 use test_cases::texts::text_agrees;
 use test_cases::{BLANK, word};
-use text_day::made::Made;
 use text_lines::plan_lines::LONGEST_TEXT;
 use text_plan::text::plan_text;
 
@@ -20,10 +19,9 @@ fn agrees(bytes: &[u8], text: &mut [u8]) -> bool {
         return false;
     }
     text.fill(BLANK);
-    let told = plan_text(&bytes[FILE_AT..end], text);
-    match told {
-        Made::Text(size) => text_agrees(bytes, end, size, text),
-        Made::Refused(_) => false,
+    match plan_text(&bytes[FILE_AT..end], text) {
+        Ok(size) => text_agrees(bytes, end, size, text),
+        Err(_) => false,
     }
 }
 

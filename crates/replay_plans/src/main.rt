@@ -6,7 +6,6 @@ use std::io;
 use test_cases::replay::replay_all;
 use test_cases::texts::{length_at, text_agrees};
 use test_cases::{BLANK, is_filled, number, word};
-use text_day::made::Made;
 use text_plans::text::{LONGEST_TEXT, plans_text};
 
 // The length that marks a case with no text.
@@ -20,17 +19,17 @@ fn refusal_agrees(bytes: &[u8], at: usize, why: Refusal, text: &[u8]) -> bool {
     if length_at(bytes, at) != NO_TEXT {
         return false;
     }
-    if why.number() != 1 {
+    if !matches!(why, Refusal::Count) {
         return false;
     }
     is_filled(text, 0, BLANK)
 }
 
 // Whether the outcome and the pool are what stands from a place on.
-fn told_agrees(bytes: &[u8], at: usize, told: Made, text: &[u8]) -> bool {
+fn told_agrees(bytes: &[u8], at: usize, told: Result<usize, Refusal>, text: &[u8]) -> bool {
     match told {
-        Made::Text(size) => text_agrees(bytes, at, size, text),
-        Made::Refused(why) => refusal_agrees(bytes, at, why, text),
+        Ok(size) => text_agrees(bytes, at, size, text),
+        Err(why) => refusal_agrees(bytes, at, why, text),
     }
 }
 

@@ -1,35 +1,36 @@
 -- What reading a file answers and makes sure of.
-use mathlib.Core.Path.{◌≡◌, refl, sym, ◌∙◌, ap}
+use mathlib.Core.Path.{◌≡◌, refl, sym, ◌∙◌, ap, subst}
 use mathlib.Core.Bool.{Bool, true, false, ◌&&◌, cond}
 use mathlib.Core.List.{List}
 use Prim.Native.Nat.{ℕ, ◌-◌, ◌*◌, ◌≤◌, ◌<◌}
 use native.Mathlib.Nat.{mul-le-mul_right}
 use native.Mathlib.Omega.{arith}
-use borrow.Author.Tests.{le-leb, lt-leb, leb-true, eq-eqb}
+use borrow.Author.Tests.{le-leb, lt-leb, leb-true}
 use lib.Dec.{leb}
-use lib.ListN.{length, take, replicate, length-replicate}
+use lib.ListN.{length, take, replicate}
 use lib.Seq.{take_at}
-use Rattle.std.specs.Prelude.{Result, Ok, Err}
+use Rattle.std.specs.Prelude.{Result, Ok, Err, IsErrAnd}
 use Rattle.base_lists.specs.All.{all_at_most}
 use Rattle.base_lists.specs.Pool.{pad}
 use Rattle.base_lists.proofs.Below.{and_left, and_right}
 use Rattle.base_lists.proofs.Flat.{length-list}
-use Rattle.base_lists.proofs.Pad.{length-pad}
 use Rattle.day_rows.specs.Check.{counts_in_range}
-use Rattle.day_rows.specs.Refusal.{number_of, carried_by}
-use Rattle.day_rows.specs.Told.{tells, done, refused, Verdict, good, unless, Outcome, outcome, judged}
-use Rattle.day_rows.specs.declared.check.Counts.{Counts}
+use Rattle.day_rows.specs.Refusal.{number_of}
+use Rattle.day_rows.specs.Told.{done, refused, Verdict, good, unless, Outcome, outcome, judged}
 use Rattle.day_rows.specs.declared.check.Takes.TheVariants as takes
 use Rattle.day_rows.specs.declared.refusal.Refusal.{Refusal}
 use Rattle.day_rows.proofs.CountLaws.{Within, within}
 use Rattle.day_rows.proofs.ToldLaws.{done-is, refused-not-done, refused_as, unless-done}
 use Rattle.day_rows.specs.Levels.{levels_in_range, levels_rise, last_level}
-use Rattle.day_file.specs.FileDay.{Parts, parts, row_counts, file_counts_in_range, day_rows_judged, pools_full, lengths_full, padded}
+use Rattle.day_file.specs.FileDay.{Parts, parts, FileDay, row_counts, file_counts_in_range, day_rows_judged, pools_full, padded}
+use Rattle.day_file.specs.FileDay.{day as file-day}
+use Rattle.day_file.specs.declared.day.FileDay as lent
 use Rattle.day_file.specs.File.{counts_in, lists_in, day_in, longest_file}
 use Rattle.day_file.specs.Calls.{body_judged, file_judged, read_of}
 use Rattle.day_file.specs.declared.counts.FileCounts.{FileCounts}
 use Rattle.day_file.proofs.ReadLaws.{good-head}
 use Rattle.day_file.proofs.DayLaws.{good_body}
+use Rattle.text_day.specs.FileRead.{DayRead, ReadsFile}
 use Rattle.text_day.specs.Prepared.{judged_to, reduced_to, prepared_of}
 use Rattle.text_day.specs.Prepared as prepared
 use Rattle.text_day.specs.steps.FileGiven.{FileGiven, GivenLevels}
@@ -148,31 +149,10 @@ ready-good file e = go (leb (length file) longest_file) (file_judged file) refl 
     go true (refused number carried) g h = absurd (refused-not-ready h)
     go false (refused number carried) g h = absurd (refused-not-ready h)
 
--- ---- the call as the text's maker makes it
-
-pub pools-full : (mins maxs optional levels preferences rows : List ℕ) → 64 ≡ length mins → 64 ≡ length maxs → 64 ≡ length optional → 64 ≡ length levels → 12800 ≡ length preferences → 128 ≡ length rows
-    → pools_full (parts mins maxs optional levels preferences rows) ≡ true
-unfolding lengths_full
-pools-full mins maxs optional levels preferences rows a b c d e f =
-    rw (eq-eqb _ _ (sym a), eq-eqb _ _ (sym b), eq-eqb _ _ (sym c), eq-eqb _ _ (sym d), eq-eqb _ _ (sym e), eq-eqb _ _ (sym f))
-
--- pools of zeros as the text's makers lend them are at their full limits
-pub zeros-full : pools_full (parts (replicate 64 0) (replicate 64 0) (replicate 64 0) (replicate 64 0) (replicate 12800 0) (replicate 128 0)) ≡ true
-zeros-full =
-    let choices = sym (length-replicate {A = ℕ} 64 0) in
-    pools-full (replicate 64 0) (replicate 64 0) (replicate 64 0) (replicate 64 0) (replicate 12800 0) (replicate 128 0) choices choices choices choices (sym (length-replicate {A = ℕ} 12800 0)) (sym (length-replicate {A = ℕ} 128 0))
-
-module _ (file : List ℕ) (pools : Parts) (full : pools_full pools ≡ true) {result : Result FileCounts Refusal} {pools' : Parts} (e : outcome (tells result) pools' ≡ read_of file pools) where
-  pub day_case : {counts : FileCounts} → result ≡ Ok counts → FileRead file counts pools'
-  day_case t = read-filled file pools full (ap (λ (r : Result FileCounts Refusal). outcome (tells r) pools') (sym t) ∙ e)
-
-  pub refused_case : {why : Refusal} → result ≡ Err why → file_judged file ≡ refused (number_of why) (carried_by why)
-  refused_case t = read-refused file pools full (ap (λ (r : Result FileCounts Refusal). outcome (tells r) pools') (sym t) ∙ e)
-
--- what is lent of a filled pool: as much as the list is long
-module _ (n size : ℕ) (l pool : List ℕ) (e : length l ≡ n) (few : n ≤ size) (p : pool ≡ pad size l) where
-  within-pool : n ≤ length pool
-  within-pool = let h = ap length p ∙ length-pad size l (let z : length l ≤ size = omega (arith, e, few) in z) in omega (arith, h, few)
+-- a refusal that is passed on by `?`
+pub reads-refused : (file : List ℕ) (answer : Result lent.FileDay Refusal) (why : Refusal) → IsErrAnd answer (λ passed. passed ≡ why) → prepared.refused (number_of why) ≡ prepared_of file → ReadsFile file answer
+reads-refused file (Ok day) why h e = absurd h
+reads-refused file (Err passed) why h e = ap (λ (w : Refusal). prepared.refused (number_of w)) h ∙ e
 
 module _ (file : List ℕ) {counts : FileCounts} {mins maxs optional levels preferences rows : List ℕ} (f : FileRead file counts (parts mins maxs optional levels preferences rows)) where
   pub day : FileGiven (row_counts (counts_in file)) (lists_in file (counts_in file)).mins (lists_in file (counts_in file)).maxs (lists_in file (counts_in file)).optional (lists_in file (counts_in file)).rows
@@ -199,7 +179,7 @@ module _ (file : List ℕ) {counts : FileCounts} {mins maxs optional levels pref
   pub few-choices : counts.choices ≤ 64
   few-choices = let h = range.choices in omega (arith, h, choices_are)
 
-  few-levels : counts.levels ≤ 64
+  pub few-levels : counts.levels ≤ 64
   few-levels = let h = leveled.few in omega (arith, h, levels_are)
 
   pub few-preferences : counts.choosers * counts.choices ≤ 12800
@@ -208,7 +188,7 @@ module _ (file : List ℕ) {counts : FileCounts} {mins maxs optional levels pref
       let h = range.choices in
       omega (arith, a, h, preferences_are)
 
-  few-rows : counts.rows ≤ 128
+  pub few-rows : counts.rows ≤ 128
   few-rows = let h = range.rows in omega (arith, h, rows_are)
 
   -- each pool holds its list
@@ -233,45 +213,35 @@ module _ (file : List ℕ) {counts : FileCounts} {mins maxs optional levels pref
   rows-held : rows ≡ pad 128 lists'.rows
   rows-held = ap (λ (p : Parts). p.rows) f.filled
 
-  pub mins-within : counts.choices ≤ length mins
-  mins-within = within-pool counts.choices 64 lists'.mins mins (day.mins-fit ∙ sym choices_are) few-choices mins-held
-
-  pub maxs-within : counts.choices ≤ length maxs
-  maxs-within = within-pool counts.choices 64 lists'.maxs maxs (day.maxs-fit ∙ sym choices_are) few-choices maxs-held
-
-  pub optional-within : counts.choices ≤ length optional
-  optional-within = within-pool counts.choices 64 lists'.optional optional (day.optional-fits ∙ sym choices_are) few-choices optional-held
-
-  pub levels-within : counts.levels ≤ length levels
-  levels-within = within-pool counts.levels 64 lists'.levels levels (leveled.levels-fit ∙ sym levels_are) few-levels levels-held
-
-  pub preferences-within : counts.choosers * counts.choices ≤ length preferences
-  preferences-within = within-pool (counts.choosers * counts.choices) 12800 lists'.preferences preferences (leveled.preferences-fit ∙ sym preferences_are) few-preferences preferences-held
-
-  pub rows-within : counts.rows ≤ length rows
-  rows-within = within-pool counts.rows 128 lists'.rows rows (day.rows_fit ∙ sym rows_are) few-rows rows-held
-
-  pub mins-lent : take counts.choices mins ≡ lists'.mins
+  mins-lent : take counts.choices mins ≡ lists'.mins
   mins-lent = front counts.choices 64 lists'.mins (day.mins-fit ∙ sym choices_are) mins-held
 
-  pub maxs-lent : take counts.choices maxs ≡ lists'.maxs
+  maxs-lent : take counts.choices maxs ≡ lists'.maxs
   maxs-lent = front counts.choices 64 lists'.maxs (day.maxs-fit ∙ sym choices_are) maxs-held
 
-  pub optional-lent : take counts.choices optional ≡ lists'.optional
+  optional-lent : take counts.choices optional ≡ lists'.optional
   optional-lent = front counts.choices 64 lists'.optional (day.optional-fits ∙ sym choices_are) optional-held
 
-  pub levels-lent : take counts.levels levels ≡ lists'.levels
+  levels-lent : take counts.levels levels ≡ lists'.levels
   levels-lent = front counts.levels 64 lists'.levels (leveled.levels-fit ∙ sym levels_are) levels-held
 
-  pub preferences-lent : take (counts.choosers * counts.choices) preferences ≡ lists'.preferences
+  preferences-lent : take (counts.choosers * counts.choices) preferences ≡ lists'.preferences
   preferences-lent = front (counts.choosers * counts.choices) 12800 lists'.preferences (leveled.preferences-fit ∙ sym preferences_are) preferences-held
 
-  pub rows-lent : take counts.rows rows ≡ lists'.rows
+  rows-lent : take counts.rows rows ≡ lists'.rows
   rows-lent = front counts.rows 128 lists'.rows (day.rows_fit ∙ sym rows_are) rows-held
 
-  module _ {asked : Counts} (a : asked ≡ row_counts counts) where
-    pub counts_are : asked ≡ row_counts (counts_in file)
-    counts_are = a ∙ ap row_counts f.counted
+  -- the day that is lent
+  pub day-read : length file ≤ longest_file → DayRead file (file-day counts (parts (take counts.choices mins) (take counts.choices maxs) (take counts.choices optional) (take counts.levels levels) (take (counts.choosers * counts.choices) preferences) (take counts.rows rows)))
+  day-read short =
+      record {
+        short = short;
+        is-good = f.is-good;
+        is-files =
+            rw (mins-lent, maxs-lent, optional-lent, levels-lent, preferences-lent, rows-lent)
+            (ap (λ (counts : FileCounts). file-day counts lists') f.counted);
+      }
 
-    pub day-given : FileGiven asked (take counts.choices mins) (take counts.choices maxs) (take counts.choices optional) (take counts.rows rows)
-    day-given = rw (counts_are, mins-lent, maxs-lent, optional-lent, rows-lent) day
+-- a day that is read has made sure of its counts, columns and rows
+pub day-given : {file : List ℕ} {day : FileDay} → DayRead file day → FileGiven (row_counts day.counts) day.lists.mins day.lists.maxs day.lists.optional day.lists.rows
+day-given {file} d = subst (λ (day : FileDay). FileGiven (row_counts day.counts) day.lists.mins day.lists.maxs day.lists.optional day.lists.rows) (sym d.is-files) (given file d.is-good)

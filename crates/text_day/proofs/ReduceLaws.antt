@@ -26,8 +26,8 @@ use Rattle.text_day.specs.Prepared as prepared
 use Rattle.text_day.specs.steps.FileGiven.{FileGiven}
 
 -- a pool of zeros as the text's makers lend it is at its full limit
-pub zeros-full : 1024 ≡ length {A = ℕ} (replicate 1024 0)
-zeros-full = sym (length-replicate {A = ℕ} 1024 0)
+zeros-full : length {A = ℕ} (replicate 1024 0) ≡ 1024
+zeros-full = length-replicate {A = ℕ} 1024 0
 
 module _ (counts : Counts) (mins maxs optional rows : List ℕ) (g : FileGiven counts mins maxs optional rows) where
   -- the rows of a read day are reduced, with no refusal but 6
@@ -119,14 +119,20 @@ module _ (counts : Counts) (mins maxs optional rows : List ℕ) (g : FileGiven c
     search-front {searches} e =
         ap (take searches) (r.held ∙ ap (pad 1024) parts ∙ append_assoc list (roster_list (reduced_rows counts rows)) _) ∙ take_at list _ searches (sym e)
 
-  -- ---- the call as the text's maker makes it
+  -- ---- the call as the text's maker makes it, with counts that are the day's and a pool of zeros
 
-  module _ {result : Result Reduction Refusal} (pool : List ℕ) (long : 1024 ≡ length pool) {pool' : List ℕ} (e : outcome (tells result) pool' ≡ reduce_of counts rows pool) where
+  module _ {asked : Counts} (a : asked ≡ counts) {result : Result Reduction Refusal} {pool' : List ℕ} (e : outcome (tells result) pool' ≡ reduce_of asked rows (replicate 1024 0)) where
+    called : {known : Result Reduction Refusal} → result ≡ known → outcome (tells known) pool' ≡ reduce_of counts rows (replicate 1024 0)
+    called t =
+        ap (λ (r : Result Reduction Refusal). outcome (tells r) pool') (sym t)
+        ∙ e
+        ∙ ap (λ (n : Counts). reduce_of n rows (replicate 1024 0)) a
+
     pub rows_case : {reduction : Reduction} → result ≡ Ok reduction → Reduces reduction.count reduction.clash pool'
-    rows_case t = reduced-rows pool (sym long) (ap (λ (r : Result Reduction Refusal). outcome (tells r) pool') (sym t) ∙ e)
+    rows_case t = reduced-rows (replicate 1024 0) zeros-full (called t)
 
     pub refused_case : {why : Refusal} → result ≡ Err why → prepared.refused (number_of why) ≡ reduced_to counts rows
-    refused_case t = reduced_refused pool (sym long) (ap (λ (r : Result Reduction Refusal). outcome (tells r) pool') (sym t) ∙ e)
+    refused_case t = reduced_refused (replicate 1024 0) zeros-full (called t)
 
   -- the search's rows, as many as were counted
   module _ {count : ℕ} {clashes : Bool} {pool : List ℕ} (r : Reduces count clashes pool) {searches : ℕ} (e : searches ≡ length (search_list (take count pool))) where

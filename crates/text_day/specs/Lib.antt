@@ -1,3 +1,4 @@
+pub mod FileRead
 pub mod Made
 pub mod Prepared
 pub mod steps

@@ -2,24 +2,18 @@
 use mathlib.Core.Path.{◌≡◌, refl, sym, ◌∙◌}
 use mathlib.Core.Bool.{Bool, true, false, cond, ◌&&◌}
 use mathlib.Core.List.{List, [], ◌∷◌}
-use Prim.Native.Nat.{ℕ, zero, suc, ◌+◌, ◌*◌, ◌-◌, ◌^◌, ◌≤◌, ◌<◌}
+use Prim.Native.Nat.{ℕ, ◌+◌, ◌*◌, ◌-◌, ◌^◌, ◌≤◌, ◌<◌}
 use native.Mathlib.Nat.{le_trans}
 use native.Mathlib.Numerals.{add-one}
 use native.Mathlib.Omega.{arith}
-use borrow.Author.Tests.{lt-ltb, le-ltb, le-leb, leb-true}
+use borrow.Author.Tests.{lt-ltb, le-ltb, le-leb}
 use lib.Dec.{ltb, leb}
 use lib.ListN.{length, get_or, drop, drop_of_length-le}
 use lib.Seq.{drop-cons}
 use Rattle.std.specs.Prelude.{None, Some}
 use Rattle.base_lists.specs.All.{all_of}
 use Rattle.base_lists.proofs.All.{all-passes, all-fails, all-passed}
-use Rattle.base_lists.proofs.Below.{and_left, and_right}
 use Rattle.text_lines.specs.Number.{is_digit, value_from, is_number, number_in}
-
--- a digit is from `0` to `9`
-pub digit_range : (byte : ℕ) → is_digit byte ≡ true → (48 ≤ byte) × (byte ≤ 57)
-unfolding is_digit
-digit_range byte t = (leb-true 48 byte (and_left (leb 48 byte) (leb byte 57) t), leb-true byte 57 (and_right (leb 48 byte) (leb byte 57) t))
 
 -- digits only make a number greater
 value-least : (value : ℕ) (bytes : List ℕ) → value ≤ value_from value bytes
@@ -67,14 +61,6 @@ pub record Reading (bytes : List ℕ) (value i : ℕ) : Type 0 where
   pub small : value < 2 ^ 64
   pub digits : all_of is_digit (drop i bytes) ≡ all_of is_digit bytes
   pub valued : value_from value (drop i bytes) ≡ value_from 0 bytes
-
--- nothing is read yet
-pub reading_start : (bytes : List ℕ) → (length bytes ≡ 0 → ⊥) → Reading bytes 0 0
-reading_start bytes n = record { some = nonzero (length bytes) n; within = omega arith; small = omega arith; digits = refl; valued = refl }
-  where
-    nonzero : (k : ℕ) → (k ≡ 0 → ⊥) → 1 ≤ k
-    nonzero zero n = absurd (n refl)
-    nonzero (suc k) n = omega arith
 
 module _ {bytes : List ℕ} {value i : ℕ} (r : Reading bytes value i) where
   -- the value of what is left is read on

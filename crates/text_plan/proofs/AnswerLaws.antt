@@ -1,7 +1,7 @@
 -- What a file, a day and a search answer, a law for each way through the functions that put the text.
 use mathlib.Core.Path.{◌≡◌, refl, sym, ◌∙◌, ap, subst}
 use mathlib.Core.List.{List, [], ◌∷◌, ◌++◌}
-use Prim.Native.Nat.{ℕ, zero, suc, ◌*◌, ◌≤◌}
+use Prim.Native.Nat.{ℕ, zero, suc, ◌≤◌}
 use native.Mathlib.Nat.{le_of_suc-le-suc, not-suc-le-zero}
 use native.Mathlib.Omega.{arith}
 use lib.ListN.{length, take, replicate}
@@ -9,14 +9,11 @@ use lib.Seq.{take_at}
 use Rattle.std.specs.Prelude.{Result, Ok, Err}
 use Rattle.day_rows.specs.Refusal.{number_of}
 use Rattle.day_rows.specs.Told.{Outcome, outcome}
-use Rattle.day_rows.specs.declared.check.Counts.{Counts}
 use Rattle.day_rows.specs.declared.check.Takes.TheVariants as takes
 use Rattle.day_rows.specs.declared.refusal.Refusal.{Refusal}
 use Rattle.day_rows.proofs.CountLaws.{within}
-use Rattle.reduce.specs.Reduction.{reduce_of}
-use Rattle.reduce.specs.declared.Reduction.{Reduction}
-use Rattle.day_file.specs.FileDay.{Parts, parts, row_counts}
-use Rattle.day_file.specs.File.{counts_in, lists_in, day_in, longest_file}
+use Rattle.day_file.specs.FileDay.{Parts, parts, FileDay, row_counts}
+use Rattle.day_file.specs.File.{day_in}
 use Rattle.day_file.specs.declared.counts.FileCounts.{FileCounts}
 use Rattle.search_meaning.specs.Calls.{Settled, searched_tells}
 use Rattle.search_meaning.specs.declared.answer.Figures.{Figures}
@@ -30,10 +27,11 @@ use Rattle.text_lines.specs.Put.{Pool, put_at}
 use Rattle.text_lines.specs.PlanLines.{PlanAnswer, none, turns, clash, refused, answer_text}
 use Rattle.text_lines.specs.Putting.{put_whole, put_found}
 use Rattle.text_lines.proofs.PuttingLaws.{whole-put, found-put}
+use Rattle.text_day.specs.FileRead.{DayRead}
 use Rattle.text_day.specs.Prepared.{Prepared, reduced_to, prepared_of}
 use Rattle.text_day.specs.Prepared as prepared
 use Rattle.text_day.specs.steps.FileGiven.{FileGiven}
-use Rattle.text_day.proofs.FileLaws.{FileRead, prepared_day, mins-lent, maxs-lent, optional-lent, levels-lent, preferences-lent, rows-lent}
+use Rattle.text_day.proofs.FileLaws.{prepared_day}
 use Rattle.text_plan.specs.PlanAnswer.{plan_settings, plan_counts, said, told_answer, search_answer, search_rows, day_answer, answer_by, reduce_answer, answer_of}
 
 -- the front of zeros is zeros
@@ -101,10 +99,6 @@ module _ (day : FileCounts) (mins maxs optional levels preferences rows : List �
 
 -- ---- the reduction of a day
 
--- counts that are equal reduce alike
-pub as_counted : {one other : Counts} (rows pool : List ℕ) → one ≡ other → {o : Outcome Reduction (List ℕ)} → o ≡ reduce_of one rows pool → o ≡ reduce_of other rows pool
-as_counted rows pool c e = e ∙ ap (λ (n : Counts). reduce_of n rows pool) c
-
 -- a day that is read has few choices
 pub few-choices : (counts : FileCounts) {mins maxs optional rows : List ℕ} → FileGiven (row_counts counts) mins maxs optional rows → counts.choices ≤ 64
 few-choices counts g = (within (row_counts counts) takes.Given g.in_range).choices
@@ -135,12 +129,9 @@ module _ (file : List ℕ) where
   unfolding answer_of
   answer-refused e = ap (λ (p : Prepared). answer_by p (day_answer (day_in file).counts (day_in file).lists)) e
 
-  module _ (short : length file ≤ longest_file) {counts : FileCounts} {mins maxs optional levels preferences rows : List ℕ} (f : FileRead file counts (parts mins maxs optional levels preferences rows)) where
-    good-answer : reduce_answer (counts_in file) (lists_in file (counts_in file)) ≡ answer_of file
-    unfolding answer_of reduce_answer
-    good-answer = ap (λ (p : Prepared). answer_by p (day_answer (day_in file).counts (day_in file).lists)) (prepared_day file short f.is-good)
-
-    pub day-answer : reduce_answer counts (parts (take counts.choices mins) (take counts.choices maxs) (take counts.choices optional) (take counts.levels levels) (take (counts.choosers * counts.choices) preferences) (take counts.rows rows)) ≡ answer_of file
-    day-answer =
-        rw (mins-lent file f, maxs-lent file f, optional-lent file f, levels-lent file f, preferences-lent file f, rows-lent file f)
-        (ap (λ (n : FileCounts). reduce_answer n (lists_in file (counts_in file))) f.counted ∙ good-answer)
+  -- the answer to the day that is read is the file's
+  pub day-answer : {day : FileDay} → DayRead file day → reduce_answer day.counts day.lists ≡ answer_of file
+  unfolding answer_of reduce_answer
+  day-answer d =
+      ap (λ (day : FileDay). reduce_answer day.counts day.lists) d.is-files
+      ∙ ap (λ (p : Prepared). answer_by p (day_answer (day_in file).counts (day_in file).lists)) (prepared_day file d.short d.is-good)

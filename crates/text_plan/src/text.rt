@@ -11,8 +11,6 @@ ghost use Rattle.text_plan.specs.Calls.{plan_text, text_of};
 
 use day_file::counts::FileCounts;
 use day_file::day::FileDay;
-use day_file::read::read_day;
-use day_file::word::LONGEST_FILE;
 use day_rows::refusal::Refusal;
 use reduce::reduce;
 use search_day::given::{PlanCounts, PlanGiven};
@@ -21,6 +19,7 @@ use search_day::settings::PlanSettings;
 use search_meaning::answer;
 use search_meaning::answer::Searched;
 use sets_analysis::analysis::Analysis;
+use text_day::pools::{Pools, read_file};
 use text_day::refusal::put_refusal;
 use text_day::search_list::search_count;
 use text_lines::plan_lines::{Figures, LONGEST_TEXT, put_found, put_none, put_turns};
@@ -121,37 +120,9 @@ fn put_plan_of_file(file: &[u8], text: &mut [u8]) -> usize
     requires { length text.old ≡ longest }
     ensures { pool text.new result ≡ put_at text.old 0 (plan_text file.now) }
 {
-    if LONGEST_FILE < file.len() {
-        return put_refusal(text, Refusal::FileLength);
-    }
-    let mut mins = [0u16; 64];
-    let mut maxs = [0u16; 64];
-    let mut optional = [0u8; 64];
-    let mut levels = [0u16; 64];
-    let mut preferences = [0u16; 12800];
-    let mut rows = [0u64; 128];
-    let read = read_day(
-        file,
-        &mut mins,
-        &mut maxs,
-        &mut optional,
-        &mut levels,
-        &mut preferences,
-        &mut rows,
-    );
-    match read {
-        Ok(counts) => {
-            let day = FileDay {
-                counts,
-                mins: &mins[..counts.choices],
-                maxs: &maxs[..counts.choices],
-                optional: &optional[..counts.choices],
-                levels: &levels[..counts.levels],
-                preferences: &preferences[..counts.choosers * counts.choices],
-                rows: &rows[..counts.rows],
-            };
-            put_day(day, text)
-        }
+    let mut pools = Pools::new();
+    match read_file(file, &mut pools) {
+        Ok(day) => put_day(day, text),
         Err(why) => put_refusal(text, why),
     }
 }

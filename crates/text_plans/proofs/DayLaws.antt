@@ -12,19 +12,18 @@ use Rattle.day_rows.specs.declared.check.Counts.{Counts}
 use Rattle.day_rows.specs.declared.check.Takes.TheVariants as takes
 use Rattle.day_rows.proofs.CountLaws.{within}
 use Rattle.reduce.specs.Reduction.{reduced_rows, search_list}
-use Rattle.day_file.specs.FileDay.{parts, row_counts}
-use Rattle.day_file.specs.File.{counts_in, lists_in, longest_file}
-use Rattle.day_file.specs.declared.counts.FileCounts.{FileCounts}
+use Rattle.day_file.specs.FileDay.{FileDay, row_counts}
 use Rattle.plan_check.specs.Day.{Day, day_of}
 use Rattle.list_nodes.specs.Judge.{judge_of}
 use Rattle.list_nodes.proofs.JudgeLaws.{buffer-decides, judge_good}
 use Rattle.text_lines.specs.PlansLines.{PlansAnswer, clash, refused}
+use Rattle.text_day.specs.FileRead.{DayRead}
 use Rattle.text_day.specs.Prepared.{Prepared, reduced_to, prepared_of, with_rows}
 use Rattle.text_day.specs.Prepared as prepared
 use Rattle.text_day.specs.steps.FileGiven.{FileGiven}
 use Rattle.text_day.proofs.SearchLaws.{search-good}
 use Rattle.text_day.proofs.ReduceLaws.{Reduces, searches_are, searches_front, searches_few}
-use Rattle.text_day.proofs.FileLaws.{FileRead, prepared_day, counts_are, mins-lent, maxs-lent, optional-lent, rows-lent}
+use Rattle.text_day.proofs.FileLaws.{prepared_day}
 use Rattle.text_plans.specs.PlansAnswer.{search_day, Lists, AnsweredBy, ReduceAnswers, file_day, Answers}
 use Rattle.text_plans.specs.Calls.{Puts}
 
@@ -88,20 +87,15 @@ module _ (file : List ℕ) (first room budget : ℕ) where
   unfolding Answers
   answer-refused {number} e = subst (λ (p : Prepared). AnsweredBy p (Lists (file_day file) first room budget) (refused number)) e refl
 
-  module _ (short : length file ≤ longest_file) {counts : FileCounts} {mins maxs optional levels preferences rows : List ℕ} (f : FileRead file counts (parts mins maxs optional levels preferences rows)) where
-    good-answer : (answer : PlansAnswer)
-        → ReduceAnswers (row_counts (counts_in file)) (lists_in file (counts_in file)).mins (lists_in file (counts_in file)).maxs (lists_in file (counts_in file)).optional (lists_in file (counts_in file)).rows first room budget answer
-        → Answers file first room budget answer
-    unfolding Answers ReduceAnswers
-    good-answer answer h = subst (λ (p : Prepared). AnsweredBy p (Lists (file_day file) first room budget) answer) (prepared_day file short f.is-good) h
+  day-answer : {day : FileDay} → DayRead file day → (answer : PlansAnswer)
+      → ReduceAnswers (row_counts day.counts) day.lists.mins day.lists.maxs day.lists.optional day.lists.rows first room budget answer → Answers file first room budget answer
+  unfolding Answers ReduceAnswers
+  day-answer d answer h =
+      subst (λ (p : Prepared). AnsweredBy p (Lists (file_day file) first room budget) answer) (prepared_day file d.short d.is-good)
+      (subst (λ (day : FileDay). ReduceAnswers (row_counts day.counts) day.lists.mins day.lists.maxs day.lists.optional day.lists.rows first room budget answer) d.is-files h)
 
-    day-answer : {asked : Counts} → asked ≡ row_counts counts → (answer : PlansAnswer)
-        → ReduceAnswers asked (take counts.choices mins) (take counts.choices maxs) (take counts.choices optional) (take counts.rows rows) first room budget answer
-        → Answers file first room budget answer
-    day-answer a answer h = good-answer answer (rw (counts_are file f a, mins-lent file f, maxs-lent file f, optional-lent file f, rows-lent file f) at h)
-
-    -- the text of the day that is read is the file's
-    pub day_puts : {asked : Counts} → asked ≡ row_counts counts → {text text' : List ℕ} {size : ℕ}
-        → Puts (ReduceAnswers asked (take counts.choices mins) (take counts.choices maxs) (take counts.choices optional) (take counts.rows rows) first room budget) text text' size
-        → Puts (Answers file first room budget) text text' size
-    day_puts a p = record { answer = p.answer; may = day-answer a p.answer p.may; put = p.put }
+  -- the text of the day that is read is the file's
+  pub day_puts : {day : FileDay} → DayRead file day → {text text' : List ℕ} {size : ℕ}
+      → Puts (ReduceAnswers (row_counts day.counts) day.lists.mins day.lists.maxs day.lists.optional day.lists.rows first room budget) text text' size
+      → Puts (Answers file first room budget) text text' size
+  day_puts d p = record { answer = p.answer; may = day-answer d p.answer p.may; put = p.put }

@@ -12,6 +12,7 @@ use lib.Dec.{leb}
 use lib.ListN.{length, take, drop, replicate, length-append, length-replicate, length-take, length-drop}
 use lib.Seq.{take_at, drop_at, take_all, take-length, sets, sets-eq, length-sets, length-take-le}
 use Rattle.base_lists.proofs.Keep.{in_map, in_flat_map, kept_in}
+use Rattle.std.specs.Prelude.{Result, Err}
 use Rattle.day_rows.specs.Check.{counts_in_range, rows_judged}
 use Rattle.day_rows.specs.declared.refusal.Refusal.{Refusal}
 use Rattle.day_rows.specs.Told.{Told, done, refused, good, unless, and_then}
@@ -29,7 +30,6 @@ use Rattle.list_nodes.specs.Page.{PageTold, ended_told, goes_on_told, turns_told
 use Rattle.list_starts.specs.PageAnswer.{paged_tells}
 use Rattle.list_page.specs.Page.{Fits, refuses, gives}
 use Rattle.list_starts.specs.declared.page_end.Paged.{Paged}
-use Rattle.list_starts.specs.declared.page_end.Paged.TheVariants as paged
 use Rattle.text_lines.specs.Put.{pool, put_at}
 use Rattle.text_lines.specs.PlansLines.{PlansAnswer, page_text, answer_text}
 use Rattle.text_lines.specs.PlansLines as answer
@@ -259,7 +259,7 @@ module _ (day : Day) (first room budget : ℕ) (is-good : judge_of day room (roo
   lent-good : judge_of day room (length (take size array)) ≡ good
   lent-good = ap (judge_of day room) lent_length ∙ is-good
 
-  module _ (result : Paged) {lent : List ℕ} (e : Fits day first room budget (take size array) (paged_tells result) lent) where
+  module _ (result : Result Paged Refusal) {lent : List ℕ} (e : Fits day first room budget (take size array) (paged_tells result) lent) where
     -- a page, told in one of the three ways
     module _ (told : PageTold) (t : paged_tells result ≡ done told) where
       shown : Shows day first room budget (take size array) lent_length told lent
@@ -299,6 +299,6 @@ module _ (day : Day) (first room budget : ℕ) (is-good : judge_of day room (roo
           }
 
     -- never a refusal
-    pub page-refused : {why : Refusal} → result ≡ paged.Refused why → ⊥
+    pub page-refused : {why : Refusal} → result ≡ Err why → ⊥
     page-refused t =
         refused-not-done (sym (subst (λ (z : Told PageTold). Within day first room budget (take size array) z lent) (ap paged_tells t) (within-fits day first room budget (take size array) e)) ∙ lent-good)

@@ -12,8 +12,10 @@ use borrow.Author.Tests.{ltb-false}
 use lib.Dec.{ltb}
 use lib.ListN.{length, get_or, take}
 use Rattle.base_lists.specs.Pool.{pad}
-use Rattle.day_rows.specs.Told.{Told, done, refused, Verdict}
-use Rattle.day_rows.proofs.ToldLaws.{refused-not-done}
+use Rattle.std.specs.Prelude.{Result}
+use Rattle.day_rows.specs.declared.refusal.Refusal.{Refusal}
+use Rattle.day_rows.specs.Told.{tells, Told, done, refused, Verdict}
+use Rattle.day_rows.proofs.ToldLaws.{answer_of, answer_back, refused-not-done}
 use Rattle.plan_check.specs.Day.{Day}
 use Rattle.plan_check.specs.Feasible.{feasible}
 use Rattle.list_nodes.specs.Placements.{plans, total, nodes}
@@ -24,9 +26,6 @@ use Rattle.text_lines.specs.PlansLines as answer
 use Rattle.text_lines.specs.Pages.{longest}
 use Rattle.text_day.specs.Prepared.{Prepared, prepared_of}
 use Rattle.text_day.specs.Prepared as prepared
-use Rattle.text_day.specs.Made.{made_tells}
-use Rattle.text_day.specs.declared.made.Made.{Made}
-use Rattle.text_day.proofs.MadeLaws.{made_back, made-back}
 use Rattle.text_plans.specs.PlansAnswer.{Lists, lists-all, lists-page, lists-some, AnsweredBy, file_day, Answers}
 use Rattle.text_plans.specs.Calls.{Prints, TextFits, refuses, prints}
 
@@ -139,11 +138,11 @@ module _ (file : List ℕ) (first room budget : ℕ) (pool : List ℕ) where
       (ap (λ (l : List ℕ). done (length l)) e, ap (pad longest) e)
 
   -- no two outcomes fit the promise of the text but where one says turns
-  pub one-text : {answer other : Made} {after after' : List ℕ} → TextFits file first room budget pool (made_tells answer) after → TextFits file first room budget pool (made_tells other) after'
+  pub one-text : {answer other : Result ℕ Refusal} {after after' : List ℕ} → TextFits file first room budget pool (tells answer) after → TextFits file first room budget pool (tells other) after'
       → (SaysTurns after → ⊥) → (SaysTurns after' → ⊥) → (answer ≡ other) × (after ≡ after')
   one-text {answer} {other} p q n m =
       let e = one_told p q n m in
-      (sym (made-back answer) ∙ ap made_back e.0 ∙ made-back other, e.1)
+      (sym (answer_back answer) ∙ ap answer_of e.0 ∙ answer_back other, e.1)
 
 -- ---- a total of 0
 

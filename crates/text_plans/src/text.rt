@@ -1,25 +1,26 @@
 // The program `plans`: a whole file and three numbers in, the whole text out.
 ghost use Rattle.std.specs.Prelude.{◌≡◌, ◌*◌, ◌≤◌, length};
-ghost use Rattle.day_rows.specs.Told.{good};
-ghost use Rattle.plan_check.specs.Day.{day_of};
+ghost use Rattle.day_rows.specs.Told.{good, tells};
+ghost use Rattle.day_file.specs.FileDay.{row_counts};
+ghost use Rattle.plan_check.specs.Day.{day_lent};
 ghost use Rattle.list_nodes.specs.Judge.{judge_of};
 ghost use Rattle.text_lines.specs.Pages.{longest};
-ghost use Rattle.text_day.specs.Made.{made_tells};
 ghost use Rattle.text_day.specs.steps.FileGiven.{FileGiven};
 ghost use Rattle.text_plans.specs.PlansAnswer.{Lists, ReduceAnswers, Answers};
 ghost use Rattle.text_plans.specs.Calls.{Puts, TextFits};
 
-use day_file::read::{Read, read_day};
-use day_file::word::LONGEST_FILE;
+use day_file::day::FileDay;
 use day_rows::check::Counts;
 use day_rows::refusal::Refusal;
 use list_page::page::list_page;
+use list_starts::asked::Asked;
 use list_starts::page_end::Paged;
-use reduce::{Reduced, reduce};
-use text_day::made::Made;
+use plan_check::day::Day;
+use reduce::reduce;
+use text_day::pools::{Pools, read_file};
 use text_day::refusal::put_refusal;
 use text_day::search_list::search_count;
-use text_lines::plans_lines::put_page;
+use text_lines::plans_lines::{Page, put_page};
 use text_lines::put::put_clash;
 
 // The most plans that a page of the program may have.
@@ -30,174 +31,120 @@ pub const MOST_ROOM: u64 = 1024;
 pub const LONGEST_TEXT: usize = 288_818;
 
 // Puts the text of a day that the listing takes.
-fn put_plans_of(
-    counts: Counts,
-    mins: &[u16],
-    maxs: &[u16],
-    optional: &[u8],
-    rows: &[u64],
-    first: u64,
-    room: u64,
-    budget: u64,
-    text: &mut [u8],
-) -> usize
-    requires fact_1 { let day = day_of counts mins.now maxs.now optional.now rows.now in
-        judge_of day room (room * counts.choices) ≡ good }
-    requires fact_2 { let day = day_of counts mins.now maxs.now optional.now rows.now in
-        room ≤ 1024 }
-    requires fact_3 { let day = day_of counts mins.now maxs.now optional.now rows.now in
-        length text.old ≡ longest }
-    ensures { let day =
-        day_of counts mins.now maxs.now optional.now rows.now in
-        Puts (Lists day first room budget) text.old text.new result }
+fn put_plans_of(day: &Day, asked: &Asked, budget: u64, text: &mut [u8]) -> usize
+    requires judged { let room = asked.now.room in
+        judge_of (day_lent day.now) room (room * day.now.counts.choices) ≡ good }
+    requires room { asked.now.room ≤ 1024 }
+    requires full { length text.old ≡ longest }
+    ensures { let May = Lists (day_lent day.now) asked.now.first asked.now.room budget in
+        Puts May text.old text.new result }
 {
     let mut buffer = [0u8; 65536];
-    let size = room as usize * counts.choices;
-    let paged = list_page(
-        counts,
-        mins,
-        maxs,
-        optional,
-        rows,
-        first,
-        room,
-        budget,
-        &mut buffer[..size],
-    );
-    match paged {
-        Paged::Ended { written, total } => put_page(
-            text,
-            b"result listed\ntotal ",
-            first,
-            total,
-            written as usize,
-            counts.choices,
-            &buffer,
-        ),
-        Paged::GoesOn { written, met } => put_page(
-            text,
-            b"result listed\ntotal at least ",
-            first,
-            met,
-            written as usize,
-            counts.choices,
-            &buffer,
-        ),
-        Paged::Turns { written, met } => put_page(
-            text,
-            b"result turns\ntotal at least ",
-            first,
-            met,
-            written as usize,
-            counts.choices,
-            &buffer,
-        ),
-        Paged::Refused(why) => put_refusal(text, why),
+    let choices = day.counts.choices;
+    let size = asked.room as usize * choices;
+    match list_page(day, asked, budget, &mut buffer[..size]) {
+        Ok(Paged::Ended { written, total }) => {
+            let page = Page {
+                first: asked.first,
+                count: written as usize,
+                choices,
+                plans: &buffer,
+            };
+            put_page(text, b"result listed\ntotal ", total, &page)
+        }
+        Ok(Paged::GoesOn { written, met }) => {
+            let page = Page {
+                first: asked.first,
+                count: written as usize,
+                choices,
+                plans: &buffer,
+            };
+            put_page(text, b"result listed\ntotal at least ", met, &page)
+        }
+        Ok(Paged::Turns { written, met }) => {
+            let page = Page {
+                first: asked.first,
+                count: written as usize,
+                choices,
+                plans: &buffer,
+            };
+            put_page(text, b"result turns\ntotal at least ", met, &page)
+        }
+        Err(why) => put_refusal(text, why),
     }
 }
 
-// Puts the text of a day: its rows are reduced once, and the search's part of them is listed by.
-fn put_day(
-    counts: Counts,
-    mins: &[u16],
-    maxs: &[u16],
-    optional: &[u8],
-    rows: &[u64],
-    first: u64,
-    room: u64,
-    budget: u64,
-    text: &mut [u8],
-) -> usize
-    requires fact_1 { FileGiven counts mins.now maxs.now optional.now rows.now }
-    requires fact_2 { room ≤ 1024 }
-    requires fact_3 { length text.old ≡ longest }
-    ensures { let May =
-        ReduceAnswers counts mins.now maxs.now optional.now
-        rows.now first room budget in
+// Puts the text of a day: its rows are reduced once, and the search's part of them is listed by. The day is
+// lent by value: behind a reference its lists can't stand beside rows that live for less long.
+fn put_day(day: FileDay, asked: &Asked, budget: u64, text: &mut [u8]) -> usize
+    requires given { let counts = row_counts day.counts in
+        FileGiven counts day.mins.now day.maxs.now day.optional.now day.rows.now }
+    requires room { asked.now.room ≤ 1024 }
+    requires full { length text.old ≡ longest }
+    ensures { let day = day.entry in
+        let May = ReduceAnswers (row_counts day.counts)
+        day.mins.now day.maxs.now day.optional.now day.rows.now
+        asked.now.first asked.now.room budget in
         Puts May text.old text.new result }
 {
     let mut pool = [0u64; 1024];
-    let reduced = reduce(counts, rows, &mut pool);
-    match reduced {
-        Reduced::Rows(reduction) => {
+    match reduce(day.counts.for_rows(), day.rows, &mut pool) {
+        Ok(reduction) => {
             if reduction.clash {
                 return put_clash(text);
             }
             let searched = search_count(&pool[..reduction.count]);
-            let with_rows = Counts {
-                choices: counts.choices,
-                slots: counts.slots,
-                choosers: counts.choosers,
-                rows: searched,
+            let listed = Day {
+                counts: Counts {
+                    choices: day.counts.choices,
+                    slots: day.counts.slots,
+                    choosers: day.counts.choosers,
+                    rows: searched,
+                },
+                mins: day.mins,
+                maxs: day.maxs,
+                optional: day.optional,
+                rows: &pool[..searched],
             };
-            put_plans_of(
-                with_rows,
-                mins,
-                maxs,
-                optional,
-                &pool[..searched],
-                first,
-                room,
-                budget,
-                text,
-            )
+            put_plans_of(&listed, asked, budget, text)
         }
-        Reduced::Refused(why) => put_refusal(text, why),
+        Err(why) => put_refusal(text, why),
     }
 }
 
 // Puts the text of `plans` for a file: the file is read, and its day listed.
-fn put_plans_of_file(file: &[u8], first: u64, room: u64, budget: u64, text: &mut [u8]) -> usize
-    requires fact_1 { room ≤ 1024 }
-    requires fact_2 { length text.old ≡ longest }
-    ensures { Puts (Answers file.now first room budget) text.old text.new result }
+fn put_plans_of_file(file: &[u8], asked: &Asked, budget: u64, text: &mut [u8]) -> usize
+    requires room { asked.now.room ≤ 1024 }
+    requires full { length text.old ≡ longest }
+    ensures { let May = Answers file.now asked.now.first asked.now.room budget in
+        Puts May text.old text.new result }
 {
-    if LONGEST_FILE < file.len() {
-        return put_refusal(text, Refusal::FileLength);
-    }
-    let mut mins = [0u16; 64];
-    let mut maxs = [0u16; 64];
-    let mut optional = [0u8; 64];
-    let mut levels = [0u16; 64];
-    let mut preferences = [0u16; 12800];
-    let mut rows = [0u64; 128];
-    let read = read_day(
-        file,
-        &mut mins,
-        &mut maxs,
-        &mut optional,
-        &mut levels,
-        &mut preferences,
-        &mut rows,
-    );
-    match read {
-        Read::Day(counts) => put_day(
-            counts.for_rows(),
-            &mins[..counts.choices],
-            &maxs[..counts.choices],
-            &optional[..counts.choices],
-            &rows[..counts.rows],
-            first,
-            room,
-            budget,
-            text,
-        ),
-        Read::Refused(why) => put_refusal(text, why),
+    let mut pools = Pools::new();
+    match read_file(file, &mut pools) {
+        Ok(day) => put_day(day, asked, budget, text),
+        Err(why) => put_refusal(text, why),
     }
 }
 
 // Makes the whole text that `plans` prints for a file, from the front of the lent pool.
-pub fn plans_text(file: &[u8], first: u64, room: u64, budget: u64, text: &mut [u8]) -> Made
+pub fn plans_text(
+    file: &[u8],
+    first: u64,
+    room: u64,
+    budget: u64,
+    text: &mut [u8],
+) -> Result<usize, Refusal>
     ensures { let before = text.old in
         let after = text.new in
-        TextFits file.now first room budget before (made_tells result) after }
+        TextFits file.now first room budget before (tells result) after }
 {
     if MOST_ROOM < room {
-        return Made::Refused(Refusal::Count);
+        return Err(Refusal::Count);
     }
     if text.len() != LONGEST_TEXT {
-        return Made::Refused(Refusal::Length);
+        return Err(Refusal::Length);
     }
     text.fill(0);
-    Made::Text(put_plans_of_file(file, first, room, budget, text))
+    let asked = Asked { first, room };
+    Ok(put_plans_of_file(file, &asked, budget, text))
 }

@@ -1,19 +1,18 @@
 -- A clash, the search with the rows that it takes, or 6.
 use mathlib.Core.Path.{sym, ◌∙◌, ap}
-use lib.ListN.{replicate}
 use lib.Seq.{length-take-le}
 use Rattle.text_lines.specs.PlanLines.{answer_text}
 use Rattle.text_lines.proofs.PutLaws.{put_as}
 use Rattle.text_lines.proofs.PlanLineLaws.{clash-is, refused-is}
-use Rattle.text_day.proofs.ReduceLaws.{Reduces, clash-told, ready-told, count-within, rows_case, refused_case, searches_front, searches_fit, zeros-full}
-use Rattle.text_plan.proofs.AnswerLaws.{as_counted, reduce-refused, reduce-clash, few-choices, reduce-ready}
+use Rattle.text_day.proofs.ReduceLaws.{Reduces, clash-told, ready-told, count-within, rows_case, refused_case, searches_front, searches_fit}
+use Rattle.text_plan.proofs.AnswerLaws.{reduce-refused, reduce-clash, few-choices, reduce-ready}
 use Rattle.text_plan.proofs.text.put_day.Goals as goal
 use Rattle.text_plan.proofs.text.put_day.Goals.{In-Ok}
 
 -- the rows are reduced
 reduced : (c : In-Ok) → Reduces _ _ _ _ _ c.requires.given c.in-Ok.reduction.count c.in-Ok.reduction.clash c.reduce.new.pool
 reduced c =
-    rows_case _ _ _ _ _ c.requires.given (replicate 1024 0) zeros-full (as_counted c.args.day.rows.now (replicate 1024 0) c.for_rows.ensures c.reduce.ensures) c.in-Ok.is
+    rows_case _ _ _ _ _ c.requires.given c.for_rows.ensures c.reduce.ensures c.in-Ok.is
 
 pub returns-then-reduction : goal.returns-then-reduction
 returns-then-reduction c =
@@ -47,5 +46,5 @@ returns-else-reduction c =
 
 pub returns-in-Err : goal.returns-in-Err
 returns-in-Err c =
-    let refusal = refused_case _ _ _ _ _ c.requires.given (replicate 1024 0) zeros-full (as_counted c.args.day.rows.now (replicate 1024 0) c.for_rows.ensures c.reduce.ensures) c.in-Err.is in
+    let refusal = refused_case _ _ _ _ _ c.requires.given c.for_rows.ensures c.reduce.ensures c.in-Err.is in
     put_as _ _ (refused-is _ ∙ ap answer_text (reduce-refused c.args.day.counts _ _ _ _ _ _ refusal)) c.put_refusal.ensures
