@@ -8,7 +8,8 @@ use listed::{list_day, tell_differ};
 use plan_check::day::Day;
 use reduce::{Reduction, reduce};
 use std::io;
-use test_cases::{first, open_read, read_full};
+use test_cases::{first, open_read};
+use text_lines::program::read_full;
 
 mod listed;
 

@@ -3,15 +3,15 @@
 // Reading past a record's end gives 0, so that a damaged file shows as a difference.
 #![tactic(auto)]
 
-ghost use Rattle.std.specs.Prelude.{◌≡◌, ◌+◌, ◌%◌, ◌^◌, ◌≤◌, length, take, drop, slice_index};
+ghost use Rattle.std.specs.Prelude.{◌≡◌, ◌+◌, ◌%◌, ◌^◌, take, drop, slice_index};
 ghost use Rattle.test_cases.specs.steps.Alike.{alike};
 ghost use Rattle.test_cases.specs.steps.Buffers.{filled};
 ghost use Rattle.test_cases.specs.steps.Numbers.{word_at, number_at};
 ghost use Rattle.test_cases.specs.steps.Tallies.{counted, closed};
 
 use std::fs::{File, Files};
-use std::io::Read;
 use std::{fs, io};
+use text_lines::program::read_full;
 
 pub mod days;
 pub mod pages;
@@ -129,26 +129,6 @@ pub fn number(bytes: &[u8], at: usize) -> u64
 pub fn open_read(rt: &impl Files<File = File>, name: &[u8]) -> Option<File> {
     let name = std::str::from_utf8(name).ok()?;
     fs::open(rt, name).ok()
-}
-
-// Reads until the list is full, or the file ends or can't be read, and answers how many bytes it put at the
-// list's front.
-pub fn read_full(file: &mut File, bytes: &mut [u8]) -> usize
-    ensures { result ≤ length bytes.new }
-{
-    let mut done = 0;
-    // No count: each read goes on by as many bytes as it got.
-    while done < bytes.len() {
-        let got = file.read(&mut bytes[done..]);
-        let Ok(n) = got else {
-            break;
-        };
-        if n == 0 {
-            break;
-        }
-        done += n;
-    }
-    done
 }
 
 // Reads the next record's bytes to the buffer's front.
