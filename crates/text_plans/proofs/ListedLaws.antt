@@ -284,16 +284,18 @@ module _ (day : Day) (first room budget : ℕ) (is-good : judge_of day room (roo
 
       -- its text is put
       pub page_puts : (head : List ℕ) → length head ≤ 29 → ((plans : List (List ℕ)) → page_text head first (number told) plans ≡ answer_text (answer_with first told plans))
-          → (text : List ℕ) → length text ≡ 288818 → first < 2 ^ 64 → number told < 2 ^ 64 → {text' : List ℕ} {end : ℕ}
-          → pool text' end ≡ put_page text head first (number told) (written told) day.counts.choices (lent ++ drop size array)
+          → (text : List ℕ) → length text ≡ 288818 → first < 2 ^ 64 → number told < 2 ^ 64
+          → {from count choices : ℕ} {page : List ℕ} → from ≡ first → count ≡ written told → choices ≡ day.counts.choices → page ≡ lent ++ drop size array → {text' : List ℕ} {end : ℕ}
+          → pool text' end ≡ put_page text head from (number told) count choices page
           → Puts (Lists day first room budget) text text' end
-      page_puts head short is text l f n p =
+      page_puts head short is text l f n {from} {count} {choices} {page} a b c d p =
           let w : written told ≤ 1024 = let h = shown.few in omega (arith, h, rooms) in
           record {
             answer = answer_with first told (plans_in (written told) day.counts.choices (lent ++ drop size array));
             may = shown.listed n (drop size array);
             put =
                 p
+                ∙ rw (a, b, c, d) refl
                 ∙ page-put text head first (number told) (written told) day.counts.choices (lent ++ drop size array) w few.0 page-holds (shown.numbered f n) short (omega (arith, l))
                 ∙ ap (put_at text 0) (is (plans_in (written told) day.counts.choices (lent ++ drop size array)));
           }

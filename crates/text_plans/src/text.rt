@@ -30,6 +30,21 @@ pub const MOST_ROOM: u64 = 1024;
 // bytes.
 pub const LONGEST_TEXT: usize = 288_818;
 
+// The page whose plans stand at a buffer's front.
+fn page_of<'a>(first: u64, written: u64, choices: usize, buffer: &'a [u8]) -> Page<'a>
+    ensures first { result.first ≡ first }
+    ensures count { result.count ≡ written }
+    ensures choices { result.choices ≡ choices }
+    ensures plans { result.plans.now ≡ buffer.now }
+{
+    Page {
+        first,
+        count: written as usize,
+        choices,
+        plans: buffer,
+    }
+}
+
 // Puts the text of a day that the listing takes.
 fn put_plans_of(day: &Day, asked: &Asked, budget: u64, text: &mut [u8]) -> usize
     requires judged { let room = asked.now.room in
@@ -44,30 +59,15 @@ fn put_plans_of(day: &Day, asked: &Asked, budget: u64, text: &mut [u8]) -> usize
     let size = asked.room as usize * choices;
     match list_page(day, asked, budget, &mut buffer[..size]) {
         Ok(Paged::Ended { written, total }) => {
-            let page = Page {
-                first: asked.first,
-                count: written as usize,
-                choices,
-                plans: &buffer,
-            };
+            let page = page_of(asked.first, written, choices, &buffer);
             put_page(text, b"result listed\ntotal ", total, &page)
         }
         Ok(Paged::GoesOn { written, met }) => {
-            let page = Page {
-                first: asked.first,
-                count: written as usize,
-                choices,
-                plans: &buffer,
-            };
+            let page = page_of(asked.first, written, choices, &buffer);
             put_page(text, b"result listed\ntotal at least ", met, &page)
         }
         Ok(Paged::Turns { written, met }) => {
-            let page = Page {
-                first: asked.first,
-                count: written as usize,
-                choices,
-                plans: &buffer,
-            };
+            let page = page_of(asked.first, written, choices, &buffer);
             put_page(text, b"result turns\ntotal at least ", met, &page)
         }
         Err(why) => put_refusal(text, why),

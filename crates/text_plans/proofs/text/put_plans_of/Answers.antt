@@ -30,33 +30,36 @@ returns-in-Ok-Ended c =
     let call = c.list_page in
     let page = c.in-Ok-Ended in
     let is : call.result ≡ Ok (paged.Ended page.written page.total) = page.is ∙ ap Ok page.field-0-is in
+    let made = c.page_of-page.ensures in
     let first : c.args.asked.now.first < 2 ^ 64 = search rules in
     let all : page.total < 2 ^ 64 = search rules in
     let short : length (ascii "result listed\ntotal ") ≤ 29 = omega arith in
     page_puts _ _ _ _ c.requires.judged c.requires.room (replicate 65536 0) page-full call.result call.ensures (ended_told page.written page.total) (ap paged_tells is)
-    (ascii "result listed\ntotal ") short (ended_is c.args.asked.now.first page.total) c.args.text.now c.requires.full first all c.put_page.ensures
+    (ascii "result listed\ntotal ") short (ended_is c.args.asked.now.first page.total) c.args.text.now c.requires.full first all made.first made.count made.choices made.plans c.put_page.ensures
 
 pub returns-in-Ok-GoesOn : goal.returns-in-Ok-GoesOn
 returns-in-Ok-GoesOn c =
     let call = c.list_page in
     let page = c.in-Ok-GoesOn in
     let is : call.result ≡ Ok (paged.GoesOn page.written page.met) = page.is ∙ ap Ok page.field-0-is in
+    let made = c.page_of-page-in-Ok-GoesOn.ensures in
     let first : c.args.asked.now.first < 2 ^ 64 = search rules in
     let all : page.met < 2 ^ 64 = search rules in
     let short : length (ascii "result listed\ntotal at least ") ≤ 29 = omega arith in
     page_puts _ _ _ _ c.requires.judged c.requires.room (replicate 65536 0) page-full call.result call.ensures (goes_on_told page.written page.met) (ap paged_tells is)
-    (ascii "result listed\ntotal at least ") short (goes_on-is c.args.asked.now.first page.met) c.args.text.now c.requires.full first all c.put_page-in-Ok-GoesOn.ensures
+    (ascii "result listed\ntotal at least ") short (goes_on-is c.args.asked.now.first page.met) c.args.text.now c.requires.full first all made.first made.count made.choices made.plans c.put_page-in-Ok-GoesOn.ensures
 
 pub returns-in-Ok-Turns : goal.returns-in-Ok-Turns
 returns-in-Ok-Turns c =
     let call = c.list_page in
     let page = c.in-Ok-Turns in
     let is : call.result ≡ Ok (paged.Turns page.written page.met) = page.is ∙ ap Ok page.field-0-is in
+    let made = c.page_of-page-in-Ok-Turns.ensures in
     let first : c.args.asked.now.first < 2 ^ 64 = search rules in
     let all : page.met < 2 ^ 64 = search rules in
     let short : length (ascii "result turns\ntotal at least ") ≤ 29 = omega arith in
     page_puts _ _ _ _ c.requires.judged c.requires.room (replicate 65536 0) page-full call.result call.ensures (turns_told page.written page.met) (ap paged_tells is)
-    (ascii "result turns\ntotal at least ") short (turns-is c.args.asked.now.first page.met) c.args.text.now c.requires.full first all c.put_page-in-Ok-Turns.ensures
+    (ascii "result turns\ntotal at least ") short (turns-is c.args.asked.now.first page.met) c.args.text.now c.requires.full first all made.first made.count made.choices made.plans c.put_page-in-Ok-Turns.ensures
 
 pub returns-in-Err : goal.returns-in-Err
 returns-in-Err c =
