@@ -29,7 +29,7 @@ pub enum Step {
 
 // The turns of a pass: 'A pass below the last level also ends when it needs a turn past the pass budget', the
 // last has every turn that is left.
-fn turns_of(last: bool, left: u64, budget: u64) -> u64
+pub fn turns_of(last: bool, left: u64, budget: u64) -> u64
     ensures { result ≡ cond last left (min left budget) }
 {
     if last {

@@ -11,7 +11,7 @@ use search_turn::depth::open_if_new;
 use search_turn::plan::write_plan;
 use search_turn::shape::shapes_fit;
 use search_turn::sight::{Sight, sight_at};
-use search_turn::state::SearchState;
+use search_turn::state::{AtDepth, SearchState};
 use search_turn::turn::{closes, turned};
 
 // How a pass ended, with the turns left and the place of the next draw.
@@ -66,7 +66,13 @@ fn walk_pass(lent: &Lent, budget: u64, first_draw: usize, plan: &mut [u8]) -> Pa
             return Passed::Wanting { draw };
         }
         left -= 1;
-        draw = open_if_new(lent, &state, draw, &mut candidates, &mut next, &mut end);
+        let at = AtDepth {
+            is_new: state.is_new,
+            depth: state.depth,
+            remaining: state.remaining,
+            loads: state.loads(),
+        };
+        draw = open_if_new(lent, &at, draw, &mut candidates, &mut next, &mut end);
         if closes(state.depth, &next, &end) {
             return Passed::Without { left, draw };
         }

@@ -1,7 +1,10 @@
 // What is decided, with each slot's sums and count: the Rust's search state, by value.
 ghost use Rattle.std.specs.Prelude.{◌≡◌, true, replicate};
+ghost use Rattle.search_candidates.specs.Loads.{loads_lent};
+ghost use Rattle.search_turn.specs.steps.Opening.{loads_in};
 
 use search_candidates::decision::UNDECIDED;
+use search_candidates::loads::Loads;
 
 // A state of the search: each choice's decision; each slot's sum of min, sum of max and count of choices; the
 // depth, whether its candidates are still to be made, and the sum of max of the choices from there on.
@@ -33,4 +36,26 @@ impl SearchState {
             remaining,
         }
     }
+
+    // The decisions, sums and counts, as candidates are made from them.
+    pub fn loads(&self) -> Loads<'_>
+        ensures { loads_lent result ≡ loads_in self.now }
+    {
+        Loads {
+            decisions: &self.decisions,
+            slot_min: &self.slot_min,
+            slot_max: &self.slot_max,
+            sizes: &self.sizes,
+        }
+    }
+}
+
+// Where a search stands at a depth: whether its candidates are still to be made, the depth, what is decided, and
+// the sum of max of the choices from there on. Lists of any length may stand in it.
+#[derive(Clone, Copy)]
+pub struct AtDepth<'a> {
+    pub is_new: bool,
+    pub depth: usize,
+    pub remaining: u32,
+    pub loads: Loads<'a>,
 }

@@ -52,7 +52,7 @@ slice_bounds-open_if_new-end-in-loop-left-2 c =
 
 pub returns-then-closes : goal.returns-then-closes
 returns-then-closes c =
-    at_closing _ _ _ _ _ _ _ _ c.loop-left.invariant.0 c.loop-left.invariant.1 _ _ _ _ c.open_if_new-draw.auto.candidates c.open_if_new-draw.ensures _ _ (sym (ap sight_tells c.in-On.is) ∙ c.sight_at.ensures) (omega (arith, c.if-left-eq0.false)) c.closes.ensures c.if-closes.true
+    at_closing _ _ _ _ _ _ _ _ c.loop-left.invariant.0 c.loop-left.invariant.1 _ _ _ _ c.open_if_new-draw.auto.candidates (rw c.loads.ensures at c.open_if_new-draw.ensures) _ _ (sym (ap sight_tells c.in-On.is) ∙ c.sight_at.ensures) (omega (arith, c.if-left-eq0.false)) c.closes.ensures c.if-closes.true
 
 pub loop-left-smaller : goal.loop-left-smaller
 loop-left-smaller c =
@@ -60,7 +60,7 @@ loop-left-smaller c =
 
 pub loop-left-preserved : goal.loop-left-preserved
 loop-left-preserved c =
-    (at_turn _ _ _ _ _ _ _ _ c.loop-left.invariant.0 c.loop-left.invariant.1 _ _ _ _ c.open_if_new-draw.auto.candidates c.open_if_new-draw.ensures _ c.closes.ensures c.if-closes.false c.turned-state.ensures.words.0 c.turned-state.ensures.words.1 _ _ (sym (ap sight_tells c.in-On.is) ∙ c.sight_at.ensures) (omega (arith, c.if-left-eq0.false)) c.turned-state.ensures.after, c.loop-left.invariant.1)
+    (at_turn _ _ _ _ _ _ _ _ c.loop-left.invariant.0 c.loop-left.invariant.1 _ _ _ _ c.open_if_new-draw.auto.candidates (rw c.loads.ensures at c.open_if_new-draw.ensures) _ c.closes.ensures c.if-closes.false c.turned-state.ensures.words.0 c.turned-state.ensures.words.1 _ _ (sym (ap sight_tells c.in-On.is) ∙ c.sight_at.ensures) (omega (arith, c.if-left-eq0.false)) c.turned-state.ensures.after, c.loop-left.invariant.1)
 
 pub shape_of-plan : goal.shape_of-plan
 shape_of-plan c =

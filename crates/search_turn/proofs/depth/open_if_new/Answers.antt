@@ -28,7 +28,7 @@ pub overflow_add-end : goal.overflow_add-end
 overflow_add-end c =
     let room = room_of _ _ _ _ _ (sym (c.if-not-opens.false) ∙ c.opens.ensures) in
     let here = c.args in
-    omega (arith, room.few, count_fits _ here.state.now.depth here.candidates.now _ _ _ (omega (arith, room.few, room.pool-length)) c.open_depth-filled.ensures c.open_depth-filled.auto.bucket)
+    omega (arith, room.few, count_fits _ here.at.now.depth here.candidates.now _ _ _ (omega (arith, room.few, room.pool-length)) c.open_depth-filled.ensures c.open_depth-filled.auto.bucket)
 
 pub offset_bounds-end-depth : goal.offset_bounds-end-depth
 offset_bounds-end-depth c =
