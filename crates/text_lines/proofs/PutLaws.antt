@@ -1,5 +1,5 @@
 -- Parts of a text put one behind the other.
-use mathlib.Core.Path.{◌≡◌, refl, sym, ap, ◌∙◌}
+use mathlib.Core.Path.{◌≡◌, refl, sym, ap, ◌∙◌, subst}
 use mathlib.Core.List.{List, ◌++◌, append_assoc, flat_map}
 use Prim.Native.Nat.{ℕ, ◌+◌, ◌-◌, ◌≤◌, ◌<◌}
 use native.Mathlib.Omega.{arith}
@@ -87,3 +87,14 @@ each_fits f xs free at {free'} {at'} i d h s l =
     let c : at' + length (flat_map f (drop i xs)) ≡ at + length (flat_map f xs) = s.1.counted in
     let k : length free' ≡ length free = s.1.same in
     omega arith
+
+-- a new pool's text goes to its front
+module _ {text bytes : List ℕ} {at : ℕ} (new : pool bytes at ≡ pool text 0) where
+  pub put_front : {put : Pool} (part : List ℕ) → put ≡ put_at bytes at part → put ≡ put_at text 0 part
+  put_front part w = w ∙ ap (λ (z : Pool). put_at z.bytes z.next part) new
+
+  pub fits_front : (part : List ℕ) → Fits text 0 part → Fits bytes at part
+  fits_front part = subst (λ (z : Pool). Fits z.bytes z.next part) (sym new)
+
+  pub puts_front : (part : List ℕ) {text' : List ℕ} {next : ℕ} → Put bytes at part text' next → Put text 0 part text' next
+  puts_front part {text'} {next} = subst (λ (z : Pool). Put z.bytes z.next part text' next) new

@@ -1,6 +1,7 @@
 -- A text put into a pool of bytes, one part behind the other.
 use Rattle.std.specs.Prelude.{cond, List, ℕ, ◌+◌, leb, length}
 use Rattle.std.proofs.lemmas.List.Edits.{sets}
+use Rattle.text_lines.specs.declared.put.Pool as lent
 
 -- the pool, and the place where the next part goes
 pub record Pool : Type 0 where
@@ -10,6 +11,10 @@ pub record Pool : Type 0 where
 -- a pool by its two parts
 abbrev pub pool : List ℕ → ℕ → Pool
 pool bytes next = record { bytes = bytes; next = next }
+
+-- the pool that a call is lent
+abbrev pub pool_lent : lent.Pool → Pool
+pool_lent text = pool text.bytes.now text.next
 
 -- where there is room for the bytes they stand from a place on, and the next part goes behind them; else the
 -- pool stays as it is

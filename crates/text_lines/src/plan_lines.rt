@@ -1,11 +1,11 @@
 // The lines of the program `plan`.
 ghost use Rattle.std.specs.Prelude.{◌≡◌, ◌++◌, ◌≤◌, length};
 ghost use Rattle.text_lines.specs.Put.{pool};
-ghost use Rattle.text_lines.specs.steps.Put.{Fits, Put};
+ghost use Rattle.text_lines.specs.steps.Put.{SamePool, FitsIn, PutIn};
 ghost use Rattle.text_lines.specs.PlanLines.{figures_text, place_text, choice_line, choice_lines, none, turns};
 ghost use Rattle.text_lines.specs.Putting.{put_whole, put_found};
 
-use super::put::{put_bytes, put_number, put_number_line};
+use super::put::Pool;
 
 // The length of a pool that holds any text of `plan`: line one of 13 bytes, three lines of 82 in all, and 64
 // choices at 19 bytes.
@@ -24,49 +24,52 @@ pub struct Figures {
 }
 
 // Puts a choice's place at the end of its line: its slot, or `out`.
-fn put_place(text: &mut [u8], at: usize, place: u8) -> usize
-    requires { Fits text.old at (place_text place) }
-    ensures { Put text.old at (place_text place) text.new result }
+fn put_place(text: &mut Pool, place: u8)
+    requires { FitsIn text.old (place_text place) }
+    ensures same { SamePool text.old text.new }
+    ensures put { PutIn text.old (place_text place) text.new }
 {
     if place == 255 {
-        return put_bytes(text, at, b" out\n");
+        text.put_bytes(b" out\n");
+        return;
     }
-    put_number_line(text, at, b" slot ", place as u64)
+    text.put_number_line(b" slot ", place as u64);
 }
 
 // Puts a choice's line.
-fn put_choice(text: &mut [u8], at: usize, choice: usize, place: u8) -> usize
-    requires { Fits text.old at (choice_line choice place) }
-    ensures { Put text.old at (choice_line choice place) text.new result }
+fn put_choice(text: &mut Pool, choice: usize, place: u8)
+    requires { FitsIn text.old (choice_line choice place) }
+    ensures same { SamePool text.old text.new }
+    ensures put { PutIn text.old (choice_line choice place) text.new }
 {
-    let number_at = put_bytes(text, at, b"choice ");
-    let place_at = put_number(text, number_at, choice as u64);
-    put_place(text, place_at, place)
+    text.put_bytes(b"choice ");
+    text.put_number(choice as u64);
+    put_place(text, place);
 }
 
 // Puts a line for each choice of a plan.
-fn put_choices(text: &mut [u8], at: usize, plan: &[u8]) -> usize
-    requires { Fits text.old at (choice_lines 0 plan.now) }
-    ensures { Put text.old at (choice_lines 0 plan.now) text.new result }
+fn put_choices(text: &mut Pool, plan: &[u8])
+    requires { FitsIn text.old (choice_lines 0 plan.now) }
+    ensures same { SamePool text.old text.new }
+    ensures put { PutIn text.old (choice_lines 0 plan.now) text.new }
 {
-    let mut next = at;
     for (i, place) in plan.iter().enumerate() {
-        next = put_choice(text, next, i, *place);
+        put_choice(text, i, *place);
     }
-    next
 }
 
 // Puts line one, and the three figures behind it.
-fn put_figures(text: &mut [u8], line: &[u8], figures: Figures) -> usize
+fn put_figures(text: &mut Pool, line: &[u8], figures: Figures)
     requires { let lines = line.now ++ figures_text figures.turns figures.passes figures.limit in
-        Fits text.old 0 lines }
-    ensures { let lines = line.now ++ figures_text figures.turns figures.passes figures.limit in
-        Put text.old 0 lines text.new result }
+        FitsIn text.old lines }
+    ensures same { SamePool text.old text.new }
+    ensures put { let lines = line.now ++ figures_text figures.turns figures.passes figures.limit in
+        PutIn text.old lines text.new }
 {
-    let turns_at = put_bytes(text, 0, line);
-    let passes_at = put_number_line(text, turns_at, b"turns ", figures.turns);
-    let limit_at = put_number_line(text, passes_at, b"passes ", figures.passes as u64);
-    put_number_line(text, limit_at, b"limit ", figures.limit as u64)
+    text.put_bytes(line);
+    text.put_number_line(b"turns ", figures.turns);
+    text.put_number_line(b"passes ", figures.passes as u64);
+    text.put_number_line(b"limit ", figures.limit as u64);
 }
 
 // Puts the text of `found`: the figures, and a line a choice.
@@ -80,8 +83,10 @@ pub fn put_found(text: &mut [u8], figures: Figures, plan: &[u8]) -> usize
     if text.len() < LONGEST_TEXT {
         return 0;
     }
-    let choices_at = put_figures(text, b"result found\n", figures);
-    put_choices(text, choices_at, plan)
+    let mut text = Pool::new(text);
+    put_figures(&mut text, b"result found\n", figures);
+    put_choices(&mut text, plan);
+    text.next
 }
 
 // Puts the text of `none`: the figures.
@@ -92,7 +97,9 @@ pub fn put_none(text: &mut [u8], figures: Figures) -> usize
     if text.len() < LONGEST_TEXT {
         return 0;
     }
-    put_figures(text, b"result none\n", figures)
+    let mut text = Pool::new(text);
+    put_figures(&mut text, b"result none\n", figures);
+    text.next
 }
 
 // Puts the text of `turns`: the figures.
@@ -103,5 +110,7 @@ pub fn put_turns(text: &mut [u8], figures: Figures) -> usize
     if text.len() < LONGEST_TEXT {
         return 0;
     }
-    put_figures(text, b"result turns\n", figures)
+    let mut text = Pool::new(text);
+    put_figures(&mut text, b"result turns\n", figures);
+    text.next
 }

@@ -2,11 +2,11 @@
 ghost use Rattle.std.specs.Prelude.{◌≡◌, ℕ, ◌+◌, ◌*◌, ◌≤◌, ◌<◌, ◌^◌, leb, length, slice_index};
 ghost use mathlib.Core.List.{flat_map};
 ghost use Rattle.text_lines.specs.Put.{pool, put_at};
-ghost use Rattle.text_lines.specs.steps.Put.{Fits, Put};
+ghost use Rattle.text_lines.specs.steps.Put.{SamePool, FitsIn, PutIn};
 ghost use Rattle.text_lines.specs.PlansLines.{place_text, plan_line, plan_lines, page_text};
 ghost use Rattle.text_lines.specs.Pages.{plans_lent, put_page};
 
-use super::put::{put_bytes, put_number, put_number_line};
+use super::put::Pool;
 
 // A page as its text is made of it: the number of its first plan in the list, how many plans there are, of how
 // many choices, and the plans one after another, a byte a place.
@@ -19,67 +19,69 @@ pub struct Page<'a> {
 }
 
 // Puts one place of a plan's line: a slot, or `out`.
-fn put_place(text: &mut [u8], at: usize, place: u8) -> usize
-    requires { Fits text.old at (place_text place) }
-    ensures { Put text.old at (place_text place) text.new result }
+fn put_place(text: &mut Pool, place: u8)
+    requires { FitsIn text.old (place_text place) }
+    ensures same { SamePool text.old text.new }
+    ensures put { PutIn text.old (place_text place) text.new }
 {
     if place == 255 {
-        return put_bytes(text, at, b" out");
+        text.put_bytes(b" out");
+        return;
     }
-    let number_at = put_bytes(text, at, b" ");
-    put_number(text, number_at, place as u64)
+    text.put_bytes(b" ");
+    text.put_number(place as u64);
 }
 
 // Puts the places of a plan.
-fn put_places(text: &mut [u8], at: usize, plan: &[u8]) -> usize
-    requires { Fits text.old at (flat_map place_text plan.now) }
-    ensures { Put text.old at (flat_map place_text plan.now) text.new result }
+fn put_places(text: &mut Pool, plan: &[u8])
+    requires { FitsIn text.old (flat_map place_text plan.now) }
+    ensures same { SamePool text.old text.new }
+    ensures put { PutIn text.old (flat_map place_text plan.now) text.new }
 {
-    let mut next = at;
     for place in plan {
-        next = put_place(text, next, *place);
+        put_place(text, *place);
     }
-    next
 }
 
 // Puts a plan's line: its number in the list, and its places.
-fn put_plan(text: &mut [u8], at: usize, number: u64, plan: &[u8]) -> usize
-    requires { Fits text.old at (plan_line number plan.now) }
-    ensures { Put text.old at (plan_line number plan.now) text.new result }
+fn put_plan(text: &mut Pool, number: u64, plan: &[u8])
+    requires { FitsIn text.old (plan_line number plan.now) }
+    ensures same { SamePool text.old text.new }
+    ensures put { PutIn text.old (plan_line number plan.now) text.new }
 {
-    let number_at = put_bytes(text, at, b"plan ");
-    let places_at = put_number(text, number_at, number);
-    let end_at = put_places(text, places_at, plan);
-    put_bytes(text, end_at, b"\n")
+    text.put_bytes(b"plan ");
+    text.put_number(number);
+    put_places(text, plan);
+    text.put_bytes(b"\n");
 }
 
 // Puts a line for each of the plans that lie one after another in the page.
-fn put_plans(text: &mut [u8], at: usize, page: &Page) -> usize
+fn put_plans(text: &mut Pool, page: &Page)
     requires held { page.now.count * page.now.choices ≤ length page.now.plans.now }
     requires numbered { page.now.first + page.now.count < 2 ^ 64 }
-    requires room { Fits text.old at (plan_lines page.now.first (plans_lent page.now)) }
-    ensures { Put text.old at (plan_lines page.now.first (plans_lent page.now)) text.new result }
+    requires room { FitsIn text.old (plan_lines page.now.first (plans_lent page.now)) }
+    ensures same { SamePool text.old text.new }
+    ensures put { PutIn text.old (plan_lines page.now.first (plans_lent page.now)) text.new }
 {
-    let mut next = at;
     for i in 0..page.count {
         let from = i * page.choices;
         let plan = &page.plans[from..from + page.choices];
-        next = put_plan(text, next, page.first + i as u64, plan);
+        put_plan(text, page.first + i as u64, plan);
     }
-    next
 }
 
 // Puts a page that has room: the head with the number at its end, and the plans.
-fn put_fitting_page(text: &mut [u8], head: &[u8], number: u64, page: &Page) -> usize
+fn put_fitting_page(text: &mut Pool, head: &[u8], number: u64, page: &Page)
     requires held { page.now.count * page.now.choices ≤ length page.now.plans.now }
     requires numbered { page.now.first + page.now.count < 2 ^ 64 }
     requires room { let plans = plans_lent page.now in
-        Fits text.old 0 (page_text head.now page.now.first number plans) }
-    ensures { let plans = plans_lent page.now in
-        Put text.old 0 (page_text head.now page.now.first number plans) text.new result }
+        FitsIn text.old (page_text head.now page.now.first number plans) }
+    ensures same { SamePool text.old text.new }
+    ensures put { let plans = plans_lent page.now in
+        PutIn text.old (page_text head.now page.now.first number plans) text.new }
 {
-    let plans_at = put_number_line(text, 0, head, number);
-    put_plans(text, plans_at, page)
+    text.put_number_line(head, number);
+    put_plans(text, page);
 }
 
 // Whether plans of so many places in all are there, a byte a place.
@@ -116,5 +118,7 @@ pub fn put_page(text: &mut [u8], head: &[u8], number: u64, page: &Page) -> usize
     if text.len() < 288_818 {
         return 0;
     }
-    put_fitting_page(text, head, number, page)
+    let mut text = Pool::new(text);
+    put_fitting_page(&mut text, head, number, page);
+    text.next
 }

@@ -1,8 +1,8 @@
-// Putting a text into a lent pool of bytes, one part after another: each call says where the next part goes.
+// Putting a text into a lent pool of bytes, one part after another.
 ghost use Rattle.std.specs.Prelude.{◌≡◌, ◌+◌, leb, length};
 ghost use Rattle.text_lines.specs.Text.{decimal, number_line, clash_text, refused_text};
-ghost use Rattle.text_lines.specs.Put.{pool, put_at};
-ghost use Rattle.text_lines.specs.steps.Put.{Fits, Put};
+ghost use Rattle.text_lines.specs.Put.{pool, pool_lent, put_at};
+ghost use Rattle.text_lines.specs.steps.Put.{SamePool, FitsIn, PutIn};
 
 // Whether a part of a size has room from a place on.
 fn has_room(whole: usize, at: usize, size: usize) -> bool
@@ -11,33 +11,82 @@ fn has_room(whole: usize, at: usize, size: usize) -> bool
     at <= whole && size <= whole - at
 }
 
-// Puts bytes that have room from a place on.
-fn put_fitting(text: &mut [u8], at: usize, bytes: &[u8]) -> usize
-    requires { Fits text.old at bytes.now }
-    ensures { Put text.old at bytes.now text.new result }
-{
-    let end = at + bytes.len();
-    text[at..end].copy_from_slice(bytes);
-    end
+// A lent pool of bytes that a text is put into, and the place where the next part goes.
+#[derive(Drop)]
+pub struct Pool<'a> {
+    bytes: &'a mut [u8],
+    pub next: usize,
 }
 
-// Puts bytes as they are from a place on, where there is room.
-pub fn put_bytes(text: &mut [u8], at: usize, bytes: &[u8]) -> usize
-    ensures { pool text.new result ≡ put_at text.old at bytes.now }
-{
-    if !has_room(text.len(), at, bytes.len()) {
-        return at;
+impl<'a> Pool<'a> {
+    // A pool with nothing put yet: the text goes to its front.
+    pub fn new(bytes: &'a mut [u8]) -> Pool<'a>
+        ensures same { result.bytes.ghost_name ≡ bytes.entry.ghost_name }
+        ensures front { pool_lent result ≡ pool bytes.old 0 }
+    {
+        Pool { bytes, next: 0 }
     }
-    put_fitting(text, at, bytes)
-}
 
-// Puts a number in decimal.
-pub fn put_number(text: &mut [u8], at: usize, number: u64) -> usize
-    ensures { pool text.new result ≡ put_at text.old at (decimal number) }
-{
-    let mut digits = [0u8; 20];
-    let count = io::decimal(number, &mut digits);
-    put_bytes(text, at, &digits[..count])
+    // Puts bytes that have room.
+    fn put_fitting(&mut self, bytes: &[u8])
+        requires { FitsIn self.old bytes.now }
+        ensures same { SamePool self.old self.new }
+        ensures put { PutIn self.old bytes.now self.new }
+    {
+        let from = self.next;
+        let end = from + bytes.len();
+        let text = &mut *self.bytes;
+        text[from..end].copy_from_slice(bytes);
+        self.next = end;
+    }
+
+    // Puts bytes as they are, where there is room.
+    pub fn put_bytes(&mut self, bytes: &[u8])
+        ensures same { SamePool self.old self.new }
+        ensures put { pool_lent self.new ≡ put_at self.old.bytes.now self.old.next bytes.now }
+    {
+        if !has_room(self.bytes.len(), self.next, bytes.len()) {
+            return;
+        }
+        self.put_fitting(bytes);
+    }
+
+    // Puts a number in decimal.
+    pub fn put_number(&mut self, number: u64)
+        ensures same { SamePool self.old self.new }
+        ensures put { pool_lent self.new ≡ put_at self.old.bytes.now self.old.next (decimal number) }
+    {
+        let mut digits = [0u8; 20];
+        let count = io::decimal(number, &mut digits);
+        self.put_bytes(&digits[..count]);
+    }
+
+    // Puts a line with a number at its end, which has room.
+    fn put_fitting_line(&mut self, word: &[u8], number: u64)
+        requires { FitsIn self.old (number_line word.now number) }
+        ensures same { SamePool self.old self.new }
+        ensures put { PutIn self.old (number_line word.now number) self.new }
+    {
+        self.put_bytes(word);
+        self.put_number(number);
+        self.put_bytes(b"\n");
+    }
+
+    // Puts a line with a number at its end, where there is room for all of it.
+    pub fn put_number_line(&mut self, word: &[u8], number: u64)
+        ensures same { SamePool self.old self.new }
+        ensures put { let line = number_line word.now number in
+            pool_lent self.new ≡ put_at self.old.bytes.now self.old.next line }
+    {
+        if !has_room(self.bytes.len(), self.next, word.len()) {
+            return;
+        }
+        let digits_at = self.next + word.len();
+        if !has_room(self.bytes.len(), digits_at, digits_of(number) + 1) {
+            return;
+        }
+        self.put_fitting_line(word, number);
+    }
 }
 
 // How many digits a number has.
@@ -48,40 +97,20 @@ fn digits_of(number: u64) -> usize
     io::decimal(number, &mut digits)
 }
 
-// Puts a line with a number at its end, which has room.
-fn put_fitting_line(text: &mut [u8], at: usize, word: &[u8], number: u64) -> usize
-    requires { Fits text.old at (number_line word.now number) }
-    ensures { Put text.old at (number_line word.now number) text.new result }
-{
-    let digits_at = put_bytes(text, at, word);
-    let end_at = put_number(text, digits_at, number);
-    put_bytes(text, end_at, b"\n")
-}
-
-// Puts a line with a number at its end, where there is room for all of it.
-pub fn put_number_line(text: &mut [u8], at: usize, word: &[u8], number: u64) -> usize
-    ensures { let line = number_line word.now number in
-        pool text.new result ≡ put_at text.old at line }
-{
-    if !has_room(text.len(), at, word.len()) {
-        return at;
-    }
-    if !has_room(text.len(), at + word.len(), digits_of(number) + 1) {
-        return at;
-    }
-    put_fitting_line(text, at, word, number)
-}
-
 // Puts the whole text of `clash`.
 pub fn put_clash(text: &mut [u8]) -> usize
     ensures { pool text.new result ≡ put_at text.old 0 clash_text }
 {
-    put_bytes(text, 0, b"result clash\n")
+    let mut text = Pool::new(text);
+    text.put_bytes(b"result clash\n");
+    text.next
 }
 
 // Puts the whole text of `refused` with 01's number.
 pub fn put_refused(text: &mut [u8], number: u64) -> usize
     ensures { pool text.new result ≡ put_at text.old 0 (refused_text number) }
 {
-    put_number_line(text, 0, b"result refused ", number)
+    let mut text = Pool::new(text);
+    text.put_number_line(b"result refused ", number);
+    text.next
 }

@@ -7,13 +7,11 @@ use Rattle.text_lines.proofs.plan_lines.put_choice.Goals as goal
 
 pub put_place-requires : goal.put_place-requires
 put_place-requires c =
-    let s = c in
-    fits_then _ _ _ (decimal s.args.choice) _ refl
-    (fits_then s.args.text.now s.args.at _ (ascii "choice ") _ (choice-line-is s.args.choice s.args.place) s.requires c.put_bytes-number_at.ensures)
-    c.put_number-place_at.ensures
+    fits_then _ _ _ (decimal c.args.choice) _ refl
+    (fits_then c.args.text.now.bytes.now c.args.text.now.next _ (ascii "choice ") _ (choice-line-is c.args.choice c.args.place) c.requires c.put_bytes.ensures.put)
+    c.put_number.ensures.put
 
-pub returns : goal.returns
-returns c =
-    let s = c in
-    put_then s.args.text.now s.args.at _ (ascii "choice ") _ (choice-line-is s.args.choice s.args.place) s.requires c.put_bytes-number_at.ensures
-    (λ f. put_then _ _ _ (decimal s.args.choice) _ refl f c.put_number-place_at.ensures (λ g. c.put_place.ensures))
+pub returns-clause-put : goal.returns-clause-put
+returns-clause-put c =
+    put_then c.args.text.now.bytes.now c.args.text.now.next _ (ascii "choice ") _ (choice-line-is c.args.choice c.args.place) c.requires c.put_bytes.ensures.put
+    (λ f. put_then _ _ _ (decimal c.args.choice) _ refl f c.put_number.ensures.put (λ g. c.put_place.ensures.put))

@@ -1,10 +1,13 @@
 -- A plan too long or a pool too short isn't put; any other has room.
-use mathlib.Core.Path.{◌∙◌}
+use mathlib.Core.Path.{◌≡◌, ◌∙◌}
 use mathlib.Core.List.{◌++◌}
 use native.Mathlib.Omega.{arith}
+use borrow.Author.Rules.{rules}
 use Rattle.text_lines.specs.Text.{ascii}
+use Rattle.text_lines.specs.Put.{pool_lent}
+use Rattle.text_lines.specs.Putting.{put_found}
 use Rattle.text_lines.specs.steps.Put.{Fits}
-use Rattle.text_lines.proofs.PutLaws.{fits-first, fits_next, put_both, put_some}
+use Rattle.text_lines.proofs.PutLaws.{fits-first, fits_next, put_both, put_some, fits_front, puts_front}
 use Rattle.text_lines.specs.PlanLines.{found, figures_text, choice_lines, answer_text}
 use Rattle.text_lines.proofs.PlanLineLaws.{found-is}
 use Rattle.text_lines.proofs.PlanFitLaws.{answer-room}
@@ -27,18 +30,26 @@ room c =
     (record { few = c.if-plan-gt-MOST_CHOICES.false; bytes = λ choice h. let b = c.type_inv.plan choice in omega (arith, b) })
     c.if-text-lt-LONGEST_TEXT.false
 
-pub put_figures-choices_at-requires : goal.put_figures-choices_at-requires
-put_figures-choices_at-requires c =
+pub put_figures-requires : goal.put_figures-requires
+put_figures-requires c =
     let a = c.args in
-    fits-first a.text.now 0 _ (ascii "result found\n" ++ figures_text a.figures.turns a.figures.passes a.figures.limit) _ (found-is a.figures.turns a.figures.passes a.figures.limit a.plan.now) (room (goal.at.put_figures-choices_at-requires c).Else-text-lt-LONGEST_TEXT)
+    let figures = a.figures in
+    fits_front c.new-text.ensures.front (ascii "result found\n" ++ figures_text figures.turns figures.passes figures.limit)
+    (fits-first a.text.now 0 _ (ascii "result found\n" ++ figures_text figures.turns figures.passes figures.limit) _ (found-is figures.turns figures.passes figures.limit a.plan.now) (room (goal.at.put_figures-requires c).Else-text-lt-LONGEST_TEXT))
 
 pub put_choices-requires : goal.put_choices-requires
 put_choices-requires c =
     let a = c.args in
-    fits_next a.text.now 0 _ (ascii "result found\n" ++ figures_text a.figures.turns a.figures.passes a.figures.limit) (choice_lines 0 a.plan.now) (found-is a.figures.turns a.figures.passes a.figures.limit a.plan.now) (room (goal.at.put_choices-requires c).Else-text-lt-LONGEST_TEXT) c.put_figures-choices_at.ensures
+    let figures = a.figures in
+    fits_next a.text.now 0 _ (ascii "result found\n" ++ figures_text figures.turns figures.passes figures.limit) (choice_lines 0 a.plan.now) (found-is figures.turns figures.passes figures.limit a.plan.now) (room (goal.at.put_choices-requires c).Else-text-lt-LONGEST_TEXT)
+    (puts_front c.new-text.ensures.front (ascii "result found\n" ++ figures_text figures.turns figures.passes figures.limit) c.put_figures.ensures.put)
 
 pub returns : goal.returns
 returns c =
     let a = c.args in
-    put_some a.text.now 0 _ (room (goal.at.returns c).Else-text-lt-LONGEST_TEXT) (put_both a.text.now 0 _ (ascii "result found\n" ++ figures_text a.figures.turns a.figures.passes a.figures.limit) (choice_lines 0 a.plan.now) (found-is a.figures.turns a.figures.passes a.figures.limit a.plan.now) c.put_figures-choices_at.ensures c.put_choices.ensures)
-    ∙ found-put a.text.now a.figures.turns a.figures.passes a.figures.limit a.plan.now c.if-plan-gt-MOST_CHOICES.false c.if-text-lt-LONGEST_TEXT.false
+    let figures = a.figures in
+    let put : pool_lent c.put_choices.new.text ≡ put_found a.text.now figures.turns figures.passes figures.limit a.plan.now =
+    put_some a.text.now 0 _ (room (goal.at.returns c).Else-text-lt-LONGEST_TEXT)
+    (put_both a.text.now 0 _ (ascii "result found\n" ++ figures_text figures.turns figures.passes figures.limit) (choice_lines 0 a.plan.now) (found-is figures.turns figures.passes figures.limit a.plan.now) (puts_front c.new-text.ensures.front (ascii "result found\n" ++ figures_text figures.turns figures.passes figures.limit) c.put_figures.ensures.put) c.put_choices.ensures.put)
+    ∙ found-put a.text.now figures.turns figures.passes figures.limit a.plan.now c.if-plan-gt-MOST_CHOICES.false c.if-text-lt-LONGEST_TEXT.false in
+    search rules

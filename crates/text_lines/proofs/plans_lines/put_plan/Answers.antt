@@ -7,17 +7,15 @@ use Rattle.text_lines.proofs.PutLaws.{fits_next, fits-second, fits_then, put_bot
 use Rattle.text_lines.proofs.PlansLineLaws.{plan-line-is}
 use Rattle.text_lines.proofs.plans_lines.put_plan.Goals as goal
 
-pub put_places-end_at-requires : goal.put_places-end_at-requires
-put_places-end_at-requires c =
-    let s = c in
-    fits-second _ _ _ (decimal s.args.number) (flat_map place_text s.args.plan.now) _ refl
-    (fits_then s.args.text.now s.args.at _ (ascii "plan ") _ (plan-line-is s.args.number s.args.plan.now) s.requires c.put_bytes-number_at.ensures)
-    c.put_number-places_at.ensures
+pub put_places-requires : goal.put_places-requires
+put_places-requires c =
+    fits-second _ _ _ (decimal c.args.number) (flat_map place_text c.args.plan.now) _ refl
+    (fits_then c.args.text.now.bytes.now c.args.text.now.next _ (ascii "plan ") _ (plan-line-is c.args.number c.args.plan.now) c.requires c.put_bytes.ensures.put)
+    c.put_number.ensures.put
 
-pub returns : goal.returns
-returns c =
-    let s = c in
-    let places = c.put_places-end_at.ensures in
-    put_then s.args.text.now s.args.at _ (ascii "plan ") _ (plan-line-is s.args.number s.args.plan.now) s.requires c.put_bytes-number_at.ensures
-    (λ f. put_then _ _ _ (decimal s.args.number) _ refl f c.put_number-places_at.ensures
-    (λ g. put_both _ _ _ (flat_map place_text s.args.plan.now) _ refl places (put-fits _ _ _ (fits_next _ _ _ (flat_map place_text s.args.plan.now) _ refl g places) c.put_bytes.ensures)))
+pub returns-clause-put : goal.returns-clause-put
+returns-clause-put c =
+    let places = c.put_places.ensures.put in
+    put_then c.args.text.now.bytes.now c.args.text.now.next _ (ascii "plan ") _ (plan-line-is c.args.number c.args.plan.now) c.requires c.put_bytes.ensures.put
+    (λ f. put_then _ _ _ (decimal c.args.number) _ refl f c.put_number.ensures.put
+    (λ g. put_both _ _ _ (flat_map place_text c.args.plan.now) _ refl places (put-fits _ _ _ (fits_next _ _ _ (flat_map place_text c.args.plan.now) _ refl g places) c.put_bytes-2.ensures.put)))

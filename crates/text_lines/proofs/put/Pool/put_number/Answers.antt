@@ -6,8 +6,8 @@ use lib.ListN.{take}
 use Rattle.text_lines.specs.Text.{decimal}
 use Rattle.text_lines.proofs.PutLaws.{put_as}
 use Rattle.text_lines.proofs.DecimalLaws.{decimal-is, fewest_count}
-use Rattle.text_lines.proofs.put.put_number.Goals as goal
-use Rattle.text_lines.proofs.put.put_number.Goals.{After-decimal-count}
+use Rattle.text_lines.proofs.put.Pool.put_number.Goals as goal
+use Rattle.text_lines.proofs.put.Pool.put_number.Goals.{After-decimal-count}
 
 -- after the call of `io` the first digits are the number's
 written : (c : After-decimal-count) → take c.decimal-count.result c.decimal-count.new.out ≡ decimal c.args.number
@@ -17,6 +17,6 @@ written c =
     let n : a.number < 2 ^ 64 = search rules in
     decimal-is _ d.result _ d.ensures.len (fewest_count a.number d.result d.ensures.len n) d.ensures.digits
 
-pub returns : goal.returns
-returns c =
-    put_as _ _ (written (goal.at.returns c).After-decimal-count) c.put_bytes.ensures
+pub returns-clause-put : goal.returns-clause-put
+returns-clause-put c =
+    put_as _ _ (written (goal.at.returns-clause-put c).After-decimal-count) c.put_bytes.ensures.put
