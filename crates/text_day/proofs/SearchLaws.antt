@@ -1,11 +1,11 @@
 -- The search's part of a reduction: how many rows it has, and that the listing takes it.
-use mathlib.Core.Path.{◌≡◌, refl, sym, ◌∙◌}
+use mathlib.Core.Path.{◌≡◌, refl, sym, ◌∙◌, ap}
 use mathlib.Core.Bool.{Bool, true, false, ◌&&◌, cond}
 use mathlib.Core.List.{List, [], ◌∷◌, Memᴰ}
 use mathlib.Core.Logic.{⊎_elim}
 use Prim.Native.Nat.{ℕ, zero, suc, ◌+◌, ◌≤◌, ◌<◌}
 use native.Mathlib.Omega.{arith}
-use borrow.Author.Tests.{leb-true}
+use borrow.Author.Tests.{le-leb, leb-true}
 use lib.Dec.{leb}
 use lib.ListN.{length, get_or}
 use Rattle.std.specs.List.{count_by}
@@ -22,6 +22,7 @@ use Rattle.day_rows.specs.declared.check.Takes.TheVariants as takes
 use Rattle.day_rows.specs.Told.{good}
 use Rattle.day_rows.specs.declared.table.Name.{Name}
 use Rattle.day_rows.specs.declared.table.Name.TheVariants as name
+use Rattle.day_rows.specs.declared.row.Row.{Row}
 use Rattle.day_rows.proofs.KeptLaws.{kept, keeps, each-good}
 use Rattle.day_rows.proofs.KindLaws.{takes_assignment}
 use Rattle.reduce_turn.specs.Turn.{kind_of}
@@ -30,6 +31,15 @@ use Rattle.reduce.proofs.TableKept.{Taken, result_taken}
 use Rattle.text_day.specs.Prepared.{with_rows}
 
 -- ---- the count
+
+module _ (number : ℕ) {row : Row} (e : row ≡ row_of number) where
+  kind-is : row.kind ≡ kind_of number
+  kind-is = ap (λ (r : Row). r.kind) e
+
+  -- a row of kinds 1 to 6 is one of the search's
+  pub one-searched : 1 ≤ row.kind → row.kind ≤ 6 → 1 ≡ length (search_list (number ∷ []))
+  unfolding search_list keep
+  one-searched l h = rw (le-leb 1 (kind_of number) (rw (sym kind-is) l), le-leb (kind_of number) 6 (rw (sym kind-is) h))
 
 -- the length of the search's list is the library's count of its rows
 pub searched-counted : (rows : List ℕ) → length (search_list rows) ≡ count_by (λ number. leb 1 (kind_of number) && leb (kind_of number) 6) rows
