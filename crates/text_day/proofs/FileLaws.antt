@@ -30,7 +30,7 @@ use Rattle.day_file.specs.Calls.{body_judged, file_judged, read_of}
 use Rattle.day_file.specs.declared.counts.FileCounts.{FileCounts}
 use Rattle.day_file.proofs.ReadLaws.{good-head}
 use Rattle.day_file.proofs.DayLaws.{good_body}
-use Rattle.text_day.specs.FileRead.{DayRead, ReadsFile}
+use Rattle.text_day.specs.steps.FileRead.{DayRead, ReadsFile}
 use Rattle.text_day.specs.Prepared.{judged_to, reduced_to, prepared_of}
 use Rattle.text_day.specs.Prepared as prepared
 use Rattle.text_day.specs.steps.FileGiven.{FileGiven, GivenLevels}

@@ -1,4 +1,3 @@
-pub mod FileRead
 pub mod Made
 pub mod Prepared
 pub mod steps

@@ -1,5 +1,5 @@
 // The pools that a file's day is read into.
-ghost use Rattle.text_day.specs.FileRead.{ReadsFile};
+ghost use Rattle.text_day.specs.steps.FileRead.{ReadsFile};
 
 use day_file::day::FileDay;
 use day_file::read::read_day;

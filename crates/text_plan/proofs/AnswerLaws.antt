@@ -27,7 +27,7 @@ use Rattle.text_lines.specs.Put.{Pool, put_at}
 use Rattle.text_lines.specs.PlanLines.{PlanAnswer, none, turns, clash, refused, answer_text}
 use Rattle.text_lines.specs.Putting.{put_whole, put_found}
 use Rattle.text_lines.proofs.PuttingLaws.{whole-put, found-put}
-use Rattle.text_day.specs.FileRead.{DayRead}
+use Rattle.text_day.specs.steps.FileRead.{DayRead}
 use Rattle.text_day.specs.Prepared.{Prepared, reduced_to, prepared_of}
 use Rattle.text_day.specs.Prepared as prepared
 use Rattle.text_day.specs.steps.FileGiven.{FileGiven}

@@ -17,7 +17,7 @@ use Rattle.plan_check.specs.Day.{Day, day_of}
 use Rattle.list_nodes.specs.Judge.{judge_of}
 use Rattle.list_nodes.proofs.JudgeLaws.{buffer-decides, judge_good}
 use Rattle.text_lines.specs.PlansLines.{PlansAnswer, clash, refused}
-use Rattle.text_day.specs.FileRead.{DayRead}
+use Rattle.text_day.specs.steps.FileRead.{DayRead}
 use Rattle.text_day.specs.Prepared.{Prepared, reduced_to, prepared_of, with_rows}
 use Rattle.text_day.specs.Prepared as prepared
 use Rattle.text_day.specs.steps.FileGiven.{FileGiven}
