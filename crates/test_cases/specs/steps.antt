@@ -2,4 +2,6 @@
 pub mod Alike
 pub mod Buffers
 pub mod Numbers
+pub mod Pages
+pub mod Records
 pub mod Tallies
