@@ -1,7 +1,7 @@
 -- The roster check as a call: what its judges leave to its passes, and a law for each way through it.
 use mathlib.Core.Path.{◌≡◌, refl, sym, ◌∙◌}
 use mathlib.Core.Bool.{Bool, true, false, ◌&&◌, ◌||◌, false≢true}
-use mathlib.Core.List.{List}
+use mathlib.Core.List.{List, []}
 use Prim.Native.Nat.{ℕ, ◌*◌, ◌≤◌}
 use native.Mathlib.Nat.{mul-le-mul_right}
 use native.Mathlib.Omega.{arith}
@@ -26,7 +26,7 @@ use Rattle.roster_rows.specs.Cells.{cells_of}
 use Rattle.roster_rows.specs.Rows.{roster_keeps}
 use Rattle.roster_rows.specs.steps.Shapes.{Seated}
 use Rattle.roster_rows.proofs.KindLaws.{rows_decide}
-use Rattle.roster_check.specs.Sheet.{Sheet, row_counts}
+use Rattle.roster_check.specs.Sheet.{Sheet, sheet_of, row_counts}
 use Rattle.roster_rows.specs.Seats.{slots_apart, names_scheduled, cells_judged}
 use Rattle.roster_check.specs.Roster.{seats_fit}
 use Rattle.roster_check.specs.Passes.{roster, passes, highest}
@@ -197,6 +197,12 @@ module _ (sheet : Sheet) where
           rw (a, s, rows_of t)
           (sym (rows_decide (roster sheet) sheet.assignment_rows
           j.few-choices j.seated.few-slots j.seated.few-choosers j.seated.cells))
+
+-- whether a roster passes has nothing to do with levels and preferences
+pub passes_any : (counts : RosterCounts) (mins maxs levels preferences rows assignment_rows plan roster : List ℕ)
+    → passes (sheet_of counts mins maxs [] [] rows assignment_rows plan roster) ≡ passes (sheet_of counts mins maxs levels preferences rows assignment_rows plan roster)
+unfolding passes
+passes_any counts mins maxs levels preferences rows assignment_rows plan roster = refl
 
 -- the call: each of its refusals, and its answer
 module _ (sheet : Sheet) where

@@ -1,7 +1,7 @@
 -- The search's refusals, a law for each way through their functions, and what isn't refused.
 use mathlib.Core.Path.{◌≡◌, refl, sym, ◌∙◌, ap}
 use mathlib.Core.Bool.{Bool, true, false, ◌&&◌}
-use mathlib.Core.List.{List}
+use mathlib.Core.List.{List, []}
 use Prim.Native.Nat.{ℕ, ◌*◌, ◌≤◌}
 use borrow.Author.Tests.{eq-eqb, ne_eqb, eqb-true, leb-true}
 use lib.Dec.{eqb, leb}
@@ -18,10 +18,10 @@ use Rattle.day_rows.specs.Levels.{levels_in_range, levels_rise, last_level}
 use Rattle.plan_check.specs.Feasible.{lengths_fit}
 use Rattle.plan_check.specs.Check.{flags_judged}
 use Rattle.sets_analysis.proofs.DaySteps.{product_few}
-use Rattle.search_map.specs.Map.{map_keeps}
+use Rattle.search_map.specs.Map.{Map, map_keeps}
 use Rattle.search_map.specs.Calls.{map_full}
 use Rattle.search_order.specs.Order.{orders_keep}
-use Rattle.search_meaning.specs.Given.{Given, row_counts}
+use Rattle.search_meaning.specs.Given.{Given, given_of, row_counts}
 use Rattle.search_meaning.specs.Judged.{search_in_range, search_lengths, day_judged, lent_judged}
 use Rattle.search_meaning.specs.steps.Lengths.{day_lengths, row_lengths}
 use Rattle.search_meaning.specs.declared.counts.SearchCounts.{SearchCounts}
@@ -178,6 +178,19 @@ module _ (given : Given) where
       pub lent-good : map_keeps given.counts.choices given.counts.rows given.counts.numbers given.map given.whole ≡ true → good ≡ lent_judged given
       unfolding lent_judged flags_judged
       lent-good h = rw (o, f, h)
+
+-- ---- neither looks at the other's lists
+
+module _ (counts : SearchCounts) (mins maxs optional levels preferences rows : List ℕ) (map : Map) (whole orders draws before : List ℕ) where
+  pub day-alone : day_judged (given_of counts mins maxs optional levels preferences rows map whole [] []) before
+      ≡ day_judged (given_of counts mins maxs optional levels preferences rows map whole orders draws) before
+  unfolding day_judged search_lengths
+  day-alone = refl
+
+  pub lent-alone : lent_judged (given_of counts [] [] optional [] [] [] map whole orders [])
+      ≡ lent_judged (given_of counts mins maxs optional levels preferences rows map whole orders draws)
+  unfolding lent_judged
+  lent-alone = refl
 
 -- ---- what isn't refused
 
