@@ -187,35 +187,48 @@ fn slice_places(lengths: SliceLengths) -> SlicePlaces {
     }
 }
 
-// Whether a record of a lookup whose map is read is answered as told.
-fn lookup_agrees_in<'a>(bytes: &[u8], answer: usize, map: &Map<'a>, whole: &'a [u16]) -> bool {
+// A record's lookup. Where the entries stand is read here alone: the part that is handed back borrows the
+// numbers and the whole list, and nothing else.
+fn looked_up<'a>(
+    bytes: &[u8],
+    lengths: SliceLengths,
+    places: SlicePlaces,
+    numbers: &'a [u16],
+    whole: &'a [u16],
+) -> Result<&'a [u16], Refusal> {
+    let mut starts = [0u16; 66];
+    let mut sizes = [0u16; 66];
+    words(bytes, STARTS_AT, lengths.starts, &mut starts);
+    words(bytes, places.sizes, lengths.sizes, &mut sizes);
     let counts = MapCounts {
         choices: number(bytes, 1) as usize,
         rows: number(bytes, 9) as usize,
         numbers: number(bytes, 17) as usize,
     };
-    let choice = Choice(word(bytes, 25));
-    is_looked_up(bytes, answer, lookup(counts, choice, map, whole))
+    let map = Map {
+        starts: first(&starts, lengths.starts),
+        lengths: first(&sizes, lengths.sizes),
+        numbers,
+    };
+    lookup(counts, Choice(word(bytes, 25)), &map, whole)
 }
 
 // Whether a record of a lookup is answered as told.
 fn lookup_agrees(bytes: &[u8]) -> bool {
     let lengths = slice_lengths(bytes);
     let places = slice_places(lengths);
-    let mut starts = [0u16; 66];
-    let mut sizes = [0u16; 66];
     let mut numbers = [0u16; 10_242];
     let mut whole = [0u16; 1026];
-    words(bytes, STARTS_AT, lengths.starts, &mut starts);
-    words(bytes, places.sizes, lengths.sizes, &mut sizes);
     words(bytes, places.numbers, lengths.written, &mut numbers);
     words(bytes, places.whole, lengths.whole, &mut whole);
-    let map = Map {
-        starts: first(&starts, lengths.starts),
-        lengths: first(&sizes, lengths.sizes),
-        numbers: first(&numbers, lengths.numbers),
-    };
-    lookup_agrees_in(bytes, places.answer, &map, first(&whole, lengths.whole))
+    let part = looked_up(
+        bytes,
+        lengths,
+        places,
+        first(&numbers, lengths.numbers),
+        first(&whole, lengths.whole),
+    );
+    is_looked_up(bytes, places.answer, part)
 }
 
 // Whether one record is answered as told: 0 and an own map, or 1 and a lookup.

@@ -9,14 +9,14 @@ use search_map::map::{Map, rows_of};
 use search_order::order_pass;
 
 // How many rows are looked up for a choice, as two bytes hold it: 65,535 for more.
-fn count_of<'a>(map: &Map<'a>, whole: &'a [u16], choice: usize) -> u16
+fn count_of<'a>(map: &Map<'_, 'a>, whole: &'a [u16], choice: usize) -> u16
     ensures { result ≡ min (length (looked_up (map_lent map.now) whole.now choice)) 65535 }
 {
     rows_of(map, whole, choice).len().min(65535) as u16
 }
 
 // Each choice's 'number of looked-up rows'.
-fn count_rows<'a>(map: &Map<'a>, whole: &'a [u16]) -> [u16; 64]
+fn count_rows<'a>(map: &Map<'_, 'a>, whole: &'a [u16]) -> [u16; 64]
     ensures { result ≡ rows_found (map_lent map.now) whole.now }
 {
     let mut counted = [0u16; 64];

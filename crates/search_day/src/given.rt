@@ -52,7 +52,7 @@ pub(crate) fn with_numbers(counts: PlanCounts, numbers: usize) -> SearchCounts
 pub(crate) fn given_by<'a>(
     given: PlanGiven<'a>,
     numbers: usize,
-    map: Map<'a>,
+    map: Map<'a, 'a>,
     whole: &'a [u16],
 ) -> Given<'a>
     ensures { given_lent result ≡ given_mapped given.entry numbers (map_lent map.entry) whole.now }

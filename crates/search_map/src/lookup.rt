@@ -50,7 +50,7 @@ fn judge(counts: MapCounts, choice: usize, map: &Map, whole: &[u16]) -> Result<(
 pub fn lookup<'a>(
     counts: MapCounts,
     choice: Choice,
-    map: &Map<'a>,
+    map: &Map<'_, 'a>,
     whole: &'a [u16],
 ) -> Result<&'a [u16], Refusal>
     ensures { tells (looked result) ≡ lookup_of counts choice.0 (map_lent map.now) whole.now }

@@ -6,12 +6,13 @@ ghost use Rattle.search_map.specs.Map.{map_lent, looked_up, entry_fits, is_whole
 ghost use Rattle.search_map.specs.Calls.{map_full};
 ghost use Rattle.search_map.specs.steps.Words.{WordAt};
 
-// A map where it is read: where each choice's entry starts, how long it is, and the numbers of all entries.
+// A map where it is read: where each choice's entry starts, how long it is, and the numbers of all entries. Two
+// lifetimes: a part of the numbers that is handed back doesn't borrow where the entries stand.
 #[derive(Clone, Copy)]
-pub struct Map<'a> {
-    pub starts: &'a [u16],
-    pub lengths: &'a [u16],
-    pub numbers: &'a [u16],
+pub struct Map<'entries, 'numbers> {
+    pub starts: &'entries [u16],
+    pub lengths: &'entries [u16],
+    pub numbers: &'numbers [u16],
 }
 
 // How many choices, rows and numbers a map is lent for: any numbers.
@@ -58,7 +59,7 @@ fn part(numbers: &[u16], start: usize, size: usize) -> &[u16]
 }
 
 // A choice's rows in any map: the search's lookup, which its own test for 14 comes before.
-pub fn rows_of<'a>(map: &Map<'a>, whole: &'a [u16], choice: usize) -> &'a [u16]
+pub fn rows_of<'a>(map: &Map<'_, 'a>, whole: &'a [u16], choice: usize) -> &'a [u16]
     ensures { result.now ≡ looked_up (map_lent map.now) whole.now choice }
 {
     let start = word_at(map.starts, choice, NO_ENTRY);

@@ -20,7 +20,7 @@ pub struct Given<'a> {
     pub levels: &'a [u16],
     pub preferences: &'a [u16],
     pub rows: &'a [u64],
-    pub map: Map<'a>,
+    pub map: Map<'a, 'a>,
     pub whole: &'a [u16],
     pub orders: &'a [u8],
     pub draws: &'a [u32],

@@ -8,7 +8,7 @@ use search_map::map::Map;
 pub struct Lent<'a> {
     pub full: bool,
     pub day: Day<'a>,
-    pub map: Map<'a>,
+    pub map: Map<'a, 'a>,
     pub whole: &'a [u16],
     pub order: &'a [u8],
     pub sets: &'a [u64],

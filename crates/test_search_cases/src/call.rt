@@ -11,7 +11,7 @@ use test_cases::{BLANK, first};
 #[derive(Clone, Copy)]
 pub struct Rows<'a> {
     pub rows: &'a [u64],
-    pub map: Map<'a>,
+    pub map: Map<'a, 'a>,
     pub whole: &'a [u16],
 }
 
