@@ -29,7 +29,8 @@ fn judge_first(given: &PlanGiven, plan: &[u8]) -> Result<(), Refusal>
         numbers: &numbers,
     };
     let size = whole_length(given.rows.len());
-    let whole = count_up(size);
+    let mut whole = [0u16; 1024];
+    count_up(size, &mut whole);
     judge_day(&given_by(*given, 0, map, &whole[..size]), plan)
 }
 
@@ -55,7 +56,8 @@ fn own_search(
         numbers: &numbers,
     };
     let size = whole_length(given.rows.len());
-    let whole = count_up(size);
+    let mut whole = [0u16; 1024];
+    count_up(size, &mut whole);
     let mapped = given_by(*given, count, map, &whole[..size]);
     search(&mapped, full_by(settings), plan)
 }

@@ -12,14 +12,13 @@ pub(crate) fn whole_length(rows: usize) -> usize
     rows.min(MOST_ROWS)
 }
 
-// The whole list, 0, 1, 2 .., in the first places of a pool.
-pub(crate) fn count_up(size: usize) -> [u16; 1024]
+// The whole list, 0, 1, 2 .., in the first places of a lent pool: handed back by value it would stand on the
+// stack twice.
+pub(crate) fn count_up(size: usize, whole: &mut [u16; 1024])
     requires { size ≤ 1024 }
-    ensures { (length result ≡ 1024) × (take size result ≡ list_below size (λ i. i)) }
+    ensures { (length whole.new ≡ 1024) × (take size whole.new ≡ list_below size (λ i. i)) }
 {
-    let mut whole = [0u16; 1024];
     for i in 0..size {
         whole[i] = i as u16;
     }
-    whole
 }

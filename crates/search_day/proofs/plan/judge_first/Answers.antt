@@ -10,10 +10,10 @@ use Rattle.search_day.proofs.plan.judge_first.Goals as goal
 
 pub slice_bounds-given_by-end : goal.slice_bounds-given_by-end
 slice_bounds-given_by-end c =
-    sym (length-take-le c.whole_length-size.result c.count_up-whole.result (omega (arith, c.whole_length-size.ensures, c.count_up-whole.ensures.0)))
+    sym (length-take-le c.whole_length-size.result c.count_up.new.whole (omega (arith, c.whole_length-size.ensures, c.count_up.ensures.0)))
 
 pub returns : goal.returns
 returns c =
     let given = c.args.given.now in
     judged-first given.counts given.mins.now given.maxs.now given.optional.now given.levels.now given.preferences.now given.rows.now given.orders.now given.draws.now c.args.plan.now
-    (map_of (replicate 64 0) (replicate 64 0) (replicate 10240 0)) zeros_full c.given_by.ensures (whole_is given.rows.now c.count_up-whole.result c.whole_length-size.ensures c.count_up-whole.ensures.1) c.judge_day.ensures
+    (map_of (replicate 64 0) (replicate 64 0) (replicate 10240 0)) zeros_full c.given_by.ensures (whole_is given.rows.now c.count_up.new.whole c.whole_length-size.ensures c.count_up.ensures.1) c.judge_day.ensures

@@ -13,7 +13,7 @@ use Rattle.search_day.proofs.plan.own_search.Goals as goal
 
 pub slice_bounds-given_by-end : goal.slice_bounds-given_by-end
 slice_bounds-given_by-end c =
-    sym (length-take-le c.whole_length-size.result c.count_up-whole.result (omega (arith, c.whole_length-size.ensures, c.count_up-whole.ensures.0)))
+    sym (length-take-le c.whole_length-size.result c.count_up.new.whole (omega (arith, c.whole_length-size.ensures, c.count_up.ensures.0)))
 
 pub returns-in_err-count : goal.returns-in_err-count
 returns-in_err-count c =
@@ -29,4 +29,4 @@ returns c =
     let given = c.args.given.now in
     own-searched given.counts given.mins.now given.maxs.now given.optional.now given.levels.now given.preferences.now given.rows.now given.orders.now given.draws.now c.args.plan.now _ c.requires
     (c.row_counts-counts.ensures ∙ ap row_counts c.with_numbers.ensures) (replicate 64 0) (replicate 64 0) (replicate 10240 0) zeros_full c.in_ok-count.ensures refl
-    c.given_by-mapped.ensures c.full_by.ensures (whole_is given.rows.now c.count_up-whole.result c.whole_length-size.ensures c.count_up-whole.ensures.1) c.search.result c.search.ensures
+    c.given_by-mapped.ensures c.full_by.ensures (whole_is given.rows.now c.count_up.new.whole c.whole_length-size.ensures c.count_up.ensures.1) c.search.result c.search.ensures
