@@ -23,7 +23,14 @@ fn undecided_members(undecided: u64, set: u64) -> usize
 fn covered_slots(slots: &[u64], set: u64) -> usize
     ensures { result ≡ covered_slots slots.now set }
 {
-    slots.iter().filter(|slot| meet(**slot, set)).count()
+    let mut covered = 0;
+    for slot in slots {
+        if !meet(*slot, set) {
+            continue;
+        }
+        covered += 1;
+    }
+    covered
 }
 
 // Whether a set is stuck: 'distinct covered slots + undecided members < S', S being the number of slots.
@@ -42,5 +49,10 @@ pub fn is_stuck(slots: &[u64], undecided: u64, set: u64) -> bool
 pub fn some_stuck(slots: &[u64], undecided: u64, sets: &[u64]) -> bool
     ensures { result ≡ some_stuck slots.now undecided sets.now }
 {
-    sets.iter().any(|set| is_stuck(slots, undecided, *set))
+    for set in sets {
+        if is_stuck(slots, undecided, *set) {
+            return true;
+        }
+    }
+    false
 }

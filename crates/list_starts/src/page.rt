@@ -6,12 +6,14 @@ ghost use Rattle.list_starts.specs.steps.Starts.{put_within};
 use super::asked::Asked;
 use list_nodes::judge::buffer_fits;
 
-// Copies a plan into the buffer from a place on.
+// Copies a plan into the buffer from a place on, byte by byte: `copy_from_slice` would need `memmove`.
 fn copy_at(plan: &[u8], buffer: &mut [u8], at: usize)
     requires { at + length plan.now ≤ length buffer.old }
     ensures { buffer.new ≡ sets buffer.old at plan.now }
 {
-    buffer[at..at + plan.len()].copy_from_slice(plan);
+    for (i, byte) in plan.iter().enumerate() {
+        buffer[at + i] = *byte;
+    }
 }
 
 // Puts a plan of the page at its place, and one of another page nowhere; in a buffer that isn't as long as

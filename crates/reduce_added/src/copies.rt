@@ -17,7 +17,12 @@ use reduce_turn::free::Free;
 fn holds(group: &[u16], choice: u16) -> bool
     ensures { result ≡ any_of (eqb choice) group.now }
 {
-    group.contains(&choice)
+    for member in group {
+        if *member == choice {
+            return true;
+        }
+    }
+    false
 }
 
 // Writes the row for one member, unless it is the row's own choice.

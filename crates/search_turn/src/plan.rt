@@ -13,12 +13,14 @@ pub(crate) fn front(decisions: &[u8], choices: usize) -> &[u8]
 }
 
 // The plan that is found, written; where there are fewer decisions than the plan has entries, it stays as it
-// was.
+// was. Byte by byte: `copy_from_slice` would need `memmove`.
 pub fn write_plan(decisions: &[u8], plan: &mut [u8])
     ensures { plan.new ≡ plan_left decisions.now plan.old }
 {
     if decisions.len() < plan.len() {
         return;
     }
-    plan.copy_from_slice(front(decisions, plan.len()));
+    for (choice, place) in plan.iter_mut().enumerate() {
+        *place = decisions[choice];
+    }
 }

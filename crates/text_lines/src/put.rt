@@ -27,17 +27,18 @@ impl<'a> Pool<'a> {
         Pool { bytes, next: 0 }
     }
 
-    // Puts bytes that have room.
+    // Puts bytes that have room, one by one: `copy_from_slice` would need `memmove`.
     fn put_fitting(&mut self, bytes: &[u8])
         requires { FitsIn self.old bytes.now }
         ensures same { SamePool self.old self.new }
         ensures put { PutIn self.old bytes.now self.new }
     {
         let from = self.next;
-        let end = from + bytes.len();
         let text = &mut *self.bytes;
-        text[from..end].copy_from_slice(bytes);
-        self.next = end;
+        for (i, byte) in bytes.iter().enumerate() {
+            text[from + i] = *byte;
+        }
+        self.next = from + bytes.len();
     }
 
     // Puts bytes as they are, where there is room.
