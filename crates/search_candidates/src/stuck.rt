@@ -1,5 +1,5 @@
 // The test of critical sets at a new depth.
-ghost use Rattle.std.specs.Prelude.{◌≡◌, ◌≤◌};
+ghost use Rattle.std.specs.Prelude.{◌≡◌, ◌≤◌, replicate};
 ghost use Rattle.search_candidates.specs.Tests.{held_by, undecided_of, sets_stuck};
 
 use super::decision::{UNDECIDED, decision_of};
@@ -21,12 +21,12 @@ fn undecided_of(decisions: &[u8], choices: usize) -> u64
     undecided
 }
 
-// The choices in each of the 24 slots that a day may have, each slot's as a set.
-fn held_by(decisions: &[u8], choices: usize) -> [u64; 24]
-    requires { choices ≤ 64 }
-    ensures { result ≡ held_by choices 24 decisions.now }
+// The choices in each of the 24 slots that a day may have, each slot's as a set, in a lent list of empty ones:
+// handed back by value it would stand on the stack three times.
+fn held_by(decisions: &[u8], choices: usize, held: &mut [u64; 24])
+    requires { (choices ≤ 64) × (held.old ≡ replicate 24 0) }
+    ensures { held.new ≡ held_by choices 24 decisions.now }
 {
-    let mut held = [0u64; 24];
     for choice in 0..choices {
         let slot = usize::from(decision_of(decisions, choice));
         if 24 <= slot {
@@ -34,7 +34,6 @@ fn held_by(decisions: &[u8], choices: usize) -> [u64; 24]
         }
         held[slot] = with(held[slot], choice);
     }
-    held
 }
 
 // Whether a critical set is stuck: 'a critical set has distinct covered slots + undecided members < S'.
@@ -45,6 +44,7 @@ pub(crate) fn sets_stuck(choices: usize, slots: usize, decisions: &[u8], sets: &
     if sets.is_empty() {
         return false;
     }
-    let held = held_by(decisions, choices);
+    let mut held = [0u64; 24];
+    held_by(decisions, choices, &mut held);
     some_stuck(&held[0..slots], undecided_of(decisions, choices), sets)
 }

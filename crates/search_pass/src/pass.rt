@@ -43,8 +43,10 @@ fn walk_pass(lent: &Lent, budget: u64, first_draw: usize, plan: &mut [u8]) -> Pa
         let out = pass_of lent budget first_draw in
         leaves (passed_tells result) plan.new ≡ left_by lent plan.old out }
 {
-    let mins = lent.day.mins;
-    let maxs = lent.day.maxs;
+    // A copy: where a call gets the address of the day in what is lent, all of that stands on the stack.
+    let day = lent.day;
+    let mins = day.mins;
+    let maxs = day.maxs;
     let mut state = SearchState::new(all_max(lent.order, maxs));
     let mut candidates = [0u8; 1625];
     let mut next = [0usize; 65];
@@ -53,7 +55,7 @@ fn walk_pass(lent: &Lent, budget: u64, first_draw: usize, plan: &mut [u8]) -> Pa
     let mut left = budget;
     // Turns go down and back, so that no count runs along them.
     loop {
-        match sight_at(lent.full, &lent.day, &state.decisions, state.depth) {
+        match sight_at(lent.full, &day, &state.decisions, state.depth) {
             Sight::Goal => {
                 break;
             }

@@ -8,4 +8,4 @@ pub returns-then-is_empty : goal.returns-then-is_empty
 returns-then-is_empty c = none_stuck _ _ _ _ (search rules)
 
 pub returns : goal.returns
-returns c = c.some_stuck.ensures ∙ stuck-by _ _ _ _ _ _ _ c.requires.1 c.held_by-held.ensures c.undecided_of.ensures
+returns c = c.some_stuck.ensures ∙ stuck-by _ _ _ _ _ _ _ c.requires.1 c.held_by.ensures c.undecided_of.ensures
