@@ -1,6 +1,7 @@
 // Parts of a record whose length it tells itself: the first n entries of a pool read from a place on or
 // compared, and the place after them.
 ghost use Rattle.std.specs.Prelude.{◌≡◌, take, drop};
+ghost use Rattle.std.specs.List.{list_all};
 
 use super::entry::Entry;
 use super::{first, plus, read_entries};
@@ -19,6 +20,13 @@ pub fn part<T>(list: &[T], at: usize, n: usize) -> &[T]
 pub fn words(bytes: &[u8], at: usize, n: usize, pool: &mut [u16]) {
     if n <= pool.len() {
         super::read_words(bytes, at, &mut pool[..n]);
+    }
+}
+
+// The n words of a pool from a place of its own on, read from a place of the record on.
+pub fn words_to(bytes: &[u8], at: usize, n: usize, pool: &mut [u16], to: usize) {
+    if to <= pool.len() {
+        words(bytes, at, n, &mut pool[to..]);
     }
 }
 
@@ -60,7 +68,9 @@ pub fn after(at: usize, n: usize, wide: usize) -> usize {
 }
 
 // Whether every entry of a pool is this one.
-pub fn all_are<T: Copy + PartialEq>(pool: &[T], held: T) -> bool {
+pub fn all_are<T: Copy + PartialEq>(pool: &[T], held: T) -> bool
+    ensures { result ≡ list_all (λ x. T.eq x held) pool.now }
+{
     pool.iter().all(|x| *x == held)
 }
 
