@@ -1,6 +1,7 @@
 // Plans a day: plan, the day file on standard input.
 #![tactic(auto)]
 
+use std::env::Env;
 use std::io;
 use std::io::Input;
 use text_lines::plan_lines::LONGEST_TEXT;
@@ -25,7 +26,7 @@ fn tell(rt: &(impl Input + Print + Eprint)) -> io::Result<()> {
 }
 
 fn main(rt: HostRuntime) -> io::Result<()> {
-    if is_given(&rt, 1) {
+    if is_given(rt.arg(1, &mut [])) {
         return say_expected(&rt);
     }
     tell(&rt)

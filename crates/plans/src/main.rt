@@ -48,7 +48,7 @@ fn list(rt: &(impl Input + Print + Eprint), first: u64, room: u64, budget: u64) 
 }
 
 fn main(rt: HostRuntime) -> io::Result<()> {
-    if is_given(&rt, 4) {
+    if is_given(rt.arg(4, &mut [])) {
         return say_expected(&rt);
     }
     let Some(first) = argument(&rt, 1, FIRST) else {

@@ -7,7 +7,7 @@ use sets_analysis::day::{SetsCounts, SetsDay};
 use sets_levels::level_list::level_list;
 use std::io;
 use test_cases::parts::{after, entries_agree};
-use test_cases::replay::replay_all;
+use test_cases::replay::{Cases, replay_all};
 use test_cases::{byte, first, number, plus, read_words, word};
 
 // What a pool holds before a call, so that what the call left alone shows.
@@ -39,12 +39,12 @@ fn after_list(bytes: &[u8], at: usize) -> usize {
 // Whether the pool holds the members of a list of sets, and zeros after them.
 fn members_agree(bytes: &[u8], at: usize, count: usize, pool: &[u64]) -> bool {
     count == usize::from(word(bytes, at))
-        && entries_agree(bytes, plus(at, 4), 10, number, count, pool, 0)
+        && entries_agree(bytes, plus(at, 4), 10, count, pool, 0)
 }
 
 // Whether the pool holds the levels of a list of sets, and zeros after them.
 fn levels_agree(bytes: &[u8], at: usize, count: usize, pool: &[u16]) -> bool {
-    entries_agree(bytes, plus(at, 2), 10, word, count, pool, 0)
+    entries_agree(bytes, plus(at, 2), 10, count, pool, 0)
 }
 
 // Whether the pools hold a list of sets, and zeros after them.
@@ -143,8 +143,18 @@ fn agrees(bytes: &[u8]) -> bool {
     day_agrees(bytes, after(preferences_at, cells, 2), &day)
 }
 
+// The days of a file, of which each record tells one with its sets.
+#[derive(Clone, Copy)]
+struct Days;
+
+impl Cases for Days {
+    fn agrees(&mut self, record: &[u8]) -> bool {
+        agrees(record)
+    }
+}
+
 fn main(rt: HostRuntime) -> io::Result<()> {
     let mut record = [0u8; 32768];
-    let tally = replay_all(&rt, b"cases", &mut record, agrees);
+    let tally = replay_all(&rt, b"cases", &mut record, &mut Days);
     tally.tell(&rt, b"critical_sets")
 }

@@ -6,7 +6,7 @@ use day_file::read::read_day;
 use std::io;
 use test_cases::days::{Told, told_of};
 use test_cases::parts::{after, all_are, part, rows_agree, words_agree};
-use test_cases::replay::replay_all;
+use test_cases::replay::{Cases, replay_all};
 use test_cases::texts::length_at;
 use test_cases::{byte, is_filled, plus, same, word};
 
@@ -116,8 +116,18 @@ fn agrees(bytes: &[u8]) -> bool {
     file_agrees(bytes, plus(4, size), part(bytes, 4, size))
 }
 
+// The day files of a file of cases, of which each record tells one.
+#[derive(Clone, Copy)]
+struct DayFiles;
+
+impl Cases for DayFiles {
+    fn agrees(&mut self, record: &[u8]) -> bool {
+        agrees(record)
+    }
+}
+
 fn main(rt: HostRuntime) -> io::Result<()> {
     let mut record = [0u8; 65536];
-    let tally = replay_all(&rt, b"cases", &mut record, agrees);
+    let tally = replay_all(&rt, b"cases", &mut record, &mut DayFiles);
     tally.tell(&rt, b"day_file")
 }

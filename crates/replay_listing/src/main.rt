@@ -13,7 +13,7 @@ use std::io;
 use test_cases::days::counts_at_front;
 use test_cases::pages::{Whole, bytes_of};
 use test_cases::parts::{after, part};
-use test_cases::replay::replay_all;
+use test_cases::replay::{Cases, replay_all};
 use test_cases::{BLANK, first, is_filled, number, plus, read_bytes, read_numbers, read_words};
 
 mod expected;
@@ -135,6 +135,18 @@ fn agrees(bytes: &[u8], buffer: &mut [u8]) -> bool {
     day_agrees(&Case { day, whole }, buffer)
 }
 
+// The days of a file, of which each record tells one with its list, and the buffer that pages are written to.
+#[derive(Drop)]
+struct Days<'a> {
+    buffer: &'a mut [u8],
+}
+
+impl Cases for Days<'_> {
+    fn agrees(&mut self, record: &[u8]) -> bool {
+        agrees(record, self.buffer)
+    }
+}
+
 fn main(rt: HostRuntime) -> io::Result<()> {
     let mut record = [0u8; 12800];
     let mut buffer = [0u8; 12800];
@@ -142,7 +154,7 @@ fn main(rt: HostRuntime) -> io::Result<()> {
         &rt,
         b"cases",
         &mut record,
-        |bytes| agrees(bytes, &mut buffer),
+        &mut Days { buffer: &mut buffer },
     );
     tally.tell(&rt, b"listing")
 }

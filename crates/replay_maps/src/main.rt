@@ -10,7 +10,7 @@ use search_map::own_map::own_map;
 use std::io;
 use test_cases::days::is_refusal;
 use test_cases::parts::{after, all_are, rows, words, words_agree};
-use test_cases::replay::replay_all;
+use test_cases::replay::{Cases, replay_all};
 use test_cases::{byte, first, number, plus, word};
 
 // What a pool's words hold before a call, so that what the call left alone shows.
@@ -239,8 +239,18 @@ fn agrees(bytes: &[u8]) -> bool {
     }
 }
 
+// The own maps and lookups of a file, of which each record tells one.
+#[derive(Clone, Copy)]
+struct Maps;
+
+impl Cases for Maps {
+    fn agrees(&mut self, record: &[u8]) -> bool {
+        agrees(record)
+    }
+}
+
 fn main(rt: HostRuntime) -> io::Result<()> {
     let mut record = [0u8; 32768];
-    let tally = replay_all(&rt, b"cases", &mut record, agrees);
+    let tally = replay_all(&rt, b"cases", &mut record, &mut Maps);
     tally.tell(&rt, b"maps")
 }

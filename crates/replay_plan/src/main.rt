@@ -2,7 +2,7 @@
 #![tactic(auto)]
 
 use std::io;
-use test_cases::replay::replay_all;
+use test_cases::replay::{Cases, replay_all};
 use test_cases::texts::text_agrees;
 use test_cases::{BLANK, word};
 use text_lines::plan_lines::LONGEST_TEXT;
@@ -25,9 +25,21 @@ fn agrees(bytes: &[u8], text: &mut [u8]) -> bool {
     }
 }
 
+// The texts of a file, of which each record tells one, with the pool in which they are made.
+#[derive(Drop)]
+struct Texts<'a> {
+    pool: &'a mut [u8],
+}
+
+impl Cases for Texts<'_> {
+    fn agrees(&mut self, record: &[u8]) -> bool {
+        agrees(record, self.pool)
+    }
+}
+
 fn main(rt: HostRuntime) -> io::Result<()> {
     let mut record = [0u8; 65_536];
     let mut text = [BLANK; LONGEST_TEXT];
-    let tally = replay_all(&rt, b"cases", &mut record, |bytes| agrees(bytes, &mut text));
+    let tally = replay_all(&rt, b"cases", &mut record, &mut Texts { pool: &mut text });
     tally.tell(&rt, b"plan")
 }

@@ -8,7 +8,7 @@ use plan_check::plan_check::check_plan;
 use std::io;
 use test_cases::days::counts_at_front;
 use test_cases::parts::after;
-use test_cases::replay::replay_all;
+use test_cases::replay::{Cases, replay_all};
 use test_cases::{byte, first, read_bytes, read_numbers, read_words};
 
 // Whether the plan check answers as the Rust did: 1 for feasible, 0 for infeasible.
@@ -54,8 +54,18 @@ fn agrees(bytes: &[u8]) -> bool {
     )
 }
 
+// The plans of a file, of which each record tells one with its day.
+#[derive(Clone, Copy)]
+struct Plans;
+
+impl Cases for Plans {
+    fn agrees(&mut self, record: &[u8]) -> bool {
+        agrees(record)
+    }
+}
+
 fn main(rt: HostRuntime) -> io::Result<()> {
     let mut record = [0u8; 16384];
-    let tally = replay_all(&rt, b"cases", &mut record, agrees);
+    let tally = replay_all(&rt, b"cases", &mut record, &mut Plans);
     tally.tell(&rt, b"plan_check")
 }

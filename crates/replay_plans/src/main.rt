@@ -3,7 +3,7 @@
 
 use day_rows::refusal::Refusal;
 use std::io;
-use test_cases::replay::replay_all;
+use test_cases::replay::{Cases, replay_all};
 use test_cases::texts::{length_at, text_agrees};
 use test_cases::{BLANK, is_filled, number, word};
 use text_plans::text::{LONGEST_TEXT, plans_text};
@@ -52,9 +52,21 @@ fn agrees(bytes: &[u8], text: &mut [u8]) -> bool {
     told_agrees(bytes, end, told, text)
 }
 
+// The texts of a file, of which each record tells one, with the pool in which they are made.
+#[derive(Drop)]
+struct Texts<'a> {
+    pool: &'a mut [u8],
+}
+
+impl Cases for Texts<'_> {
+    fn agrees(&mut self, record: &[u8]) -> bool {
+        agrees(record, self.pool)
+    }
+}
+
 fn main(rt: HostRuntime) -> io::Result<()> {
     let mut record = [0u8; 65_536];
     let mut text = [BLANK; LONGEST_TEXT];
-    let tally = replay_all(&rt, b"cases", &mut record, |bytes| agrees(bytes, &mut text));
+    let tally = replay_all(&rt, b"cases", &mut record, &mut Texts { pool: &mut text });
     tally.tell(&rt, b"plans")
 }

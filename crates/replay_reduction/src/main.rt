@@ -8,7 +8,7 @@ use reduce::{Reduction, reduce};
 use std::io;
 use test_cases::days::counts_at_front;
 use test_cases::parts::{after, all_are, rows_agree};
-use test_cases::replay::replay_all;
+use test_cases::replay::{Cases, replay_all};
 use test_cases::{byte, first, plus, read_numbers, word};
 
 // Whether a reduction is the Rust's: status 0, the flag, the count and the rows; the pool zero past them.
@@ -46,8 +46,18 @@ fn agrees(bytes: &[u8]) -> bool {
     )
 }
 
+// The days of a file, of which each record tells one with its reduction.
+#[derive(Clone, Copy)]
+struct Days;
+
+impl Cases for Days {
+    fn agrees(&mut self, record: &[u8]) -> bool {
+        agrees(record)
+    }
+}
+
 fn main(rt: HostRuntime) -> io::Result<()> {
     let mut record = [0u8; 16384];
-    let tally = replay_all(&rt, b"cases", &mut record, agrees);
+    let tally = replay_all(&rt, b"cases", &mut record, &mut Days);
     tally.tell(&rt, b"reduction")
 }

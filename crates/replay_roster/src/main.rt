@@ -6,7 +6,7 @@ use roster_check::roster_check::{RosterCounts, Scored, Sheet, check_roster};
 use std::io;
 use test_cases::days::{Told, told_number, told_of};
 use test_cases::parts::{after, few_bytes, rows, words};
-use test_cases::replay::replay_all;
+use test_cases::replay::{Cases, replay_all};
 use test_cases::{byte, first, plus, word};
 
 // The lengths of the slices that a case lends.
@@ -208,10 +208,30 @@ fn agrees_told(bytes: &[u8]) -> bool {
     )
 }
 
+// The rosters of a file, of which each record tells one that is asked about.
+#[derive(Clone, Copy)]
+struct AskedSheets;
+
+impl Cases for AskedSheets {
+    fn agrees(&mut self, record: &[u8]) -> bool {
+        agrees_asked(record)
+    }
+}
+
+// The refusals of a file, of which each record tells one, its counts and lengths as they are lent.
+#[derive(Clone, Copy)]
+struct ToldSheets;
+
+impl Cases for ToldSheets {
+    fn agrees(&mut self, record: &[u8]) -> bool {
+        agrees_told(record)
+    }
+}
+
 fn main(rt: HostRuntime) -> io::Result<()> {
     let mut record = [0u8; 65536];
-    let tally = replay_all(&rt, b"cases", &mut record, agrees_asked);
+    let tally = replay_all(&rt, b"cases", &mut record, &mut AskedSheets);
     tally.tell(&rt, b"roster")?;
-    let told = replay_all(&rt, b"refusals", &mut record, agrees_told);
+    let told = replay_all(&rt, b"refusals", &mut record, &mut ToldSheets);
     told.tell(&rt, b"refusals")
 }

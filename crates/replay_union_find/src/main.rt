@@ -5,7 +5,7 @@
 use day_rows::refusal::Refusal;
 use reduce_union_find::UnionFind;
 use std::io;
-use test_cases::replay::replay_all;
+use test_cases::replay::{Cases, replay_all};
 use test_cases::{byte, is_filled, plus, same, word};
 
 // A union-find made by a run's joins, and whether each join answered as expected so far.
@@ -114,8 +114,18 @@ fn agrees(bytes: &[u8]) -> bool {
         && entries_agree(bytes, entries, choices, run.state)
 }
 
+// The runs of a file, of which each record tells one.
+#[derive(Clone, Copy)]
+struct Runs;
+
+impl Cases for Runs {
+    fn agrees(&mut self, record: &[u8]) -> bool {
+        agrees(record)
+    }
+}
+
 fn main(rt: HostRuntime) -> io::Result<()> {
     let mut record = [0u8; 4096];
-    let tally = replay_all(&rt, b"cases", &mut record, agrees);
+    let tally = replay_all(&rt, b"cases", &mut record, &mut Runs);
     tally.tell(&rt, b"union_find")
 }

@@ -9,11 +9,13 @@ ghost use Rattle.test_cases.specs.steps.Buffers.{filled};
 ghost use Rattle.test_cases.specs.steps.Numbers.{word_at, number_at};
 ghost use Rattle.test_cases.specs.steps.Tallies.{counted, closed};
 
+use entry::Entry;
 use std::fs::{File, Files};
 use std::{fs, io};
 use text_lines::program::read_full;
 
 pub mod days;
+pub mod entry;
 pub mod pages;
 pub mod parts;
 pub mod replay;
@@ -187,36 +189,28 @@ pub fn plus(a: usize, b: usize) -> usize
     a.wrapping_add(b)
 }
 
-// Fills a list with the entries of so many bytes each from a place on, each read as this function reads it.
-pub fn read_entries<T: Copy, F: Fn(&[u8], usize) -> T>(
-    bytes: &[u8],
-    from: usize,
-    size: usize,
-    entry: F,
-    entries: &mut [T],
-)
-    requires { F.IsAlwaysCallable entry }
-{
+// Fills a list with the entries from a place on, each so many bytes after the one before it.
+pub fn read_entries<T: Entry>(bytes: &[u8], from: usize, apart: usize, entries: &mut [T]) {
     let mut at = from;
     for x in entries.iter_mut() {
-        *x = entry(bytes, at);
-        at = plus(at, size);
+        *x = T::at(bytes, at);
+        at = plus(at, apart);
     }
 }
 
 // Fills a list with the words from a place on.
 pub fn read_words(bytes: &[u8], from: usize, words: &mut [u16]) {
-    read_entries(bytes, from, 2, word, words);
+    read_entries(bytes, from, 2, words);
 }
 
 // Fills a list with the bytes from a place on.
 pub fn read_bytes(bytes: &[u8], from: usize, out: &mut [u8]) {
-    read_entries(bytes, from, 1, byte, out);
+    read_entries(bytes, from, 1, out);
 }
 
 // Fills a list with the numbers of eight bytes from a place on: rows, as a pool holds them.
 pub fn read_numbers(bytes: &[u8], from: usize, numbers: &mut [u64]) {
-    read_entries(bytes, from, 8, number, numbers);
+    read_entries(bytes, from, 8, numbers);
 }
 
 // The first n entries of a list, or all of them: a pool's part that a call is lent, with no test at each

@@ -1,8 +1,10 @@
 // Parts of a record whose length it tells itself: the first n entries of a pool read from a place on or
 // compared, and the place after them.
 ghost use Rattle.std.specs.Prelude.{◌≡◌, take, drop};
+ghost use Rattle.std.specs.List.{list_all};
 
-use super::{first, number, plus, read_entries, word};
+use super::entry::Entry;
+use super::{first, plus, read_entries};
 
 // The n entries of a list from a place on, or what it has of them.
 pub fn part<T>(list: &[T], at: usize, n: usize) -> &[T]
@@ -21,6 +23,13 @@ pub fn words(bytes: &[u8], at: usize, n: usize, pool: &mut [u16]) {
     }
 }
 
+// The n words of a pool from a place of its own on, read from a place of the record on.
+pub fn words_to(bytes: &[u8], at: usize, n: usize, pool: &mut [u16], to: usize) {
+    if to <= pool.len() {
+        words(bytes, at, n, &mut pool[to..]);
+    }
+}
+
 // The first n rows of a pool read from a place on.
 pub fn rows(bytes: &[u8], at: usize, n: usize, pool: &mut [u64]) {
     if n <= pool.len() {
@@ -35,14 +44,9 @@ pub fn few_bytes(bytes: &[u8], at: usize, n: usize, pool: &mut [u8]) {
     }
 }
 
-// A draw, of four bytes, from a place on.
-fn draw(bytes: &[u8], at: usize) -> u32 {
-    u32::from(word(bytes, at)) * 65_536 + u32::from(word(bytes, plus(at, 2)))
-}
-
 // Fills a pool with the draws from a place on.
 pub fn draws(bytes: &[u8], from: usize, pool: &mut [u32]) {
-    read_entries(bytes, from, 4, draw, pool);
+    read_entries(bytes, from, 4, pool);
 }
 
 // Fills a list with 0, 1, 2 .., and with 0 where that is no word.
@@ -64,26 +68,25 @@ pub fn after(at: usize, n: usize, wide: usize) -> usize {
 }
 
 // Whether every entry of a pool is this one.
-pub fn all_are<T: Copy + PartialEq>(pool: &[T], held: T) -> bool {
+pub fn all_are<T: Copy + PartialEq>(pool: &[T], held: T) -> bool
+    ensures { result ≡ list_all (λ x. T.eq x held) pool.now }
+{
     pool.iter().all(|x| *x == held)
 }
 
-// Whether the first n entries of a pool are those from a place on, each so many bytes after the one before it
-// and read as this function reads it, and all after them are another.
-pub fn entries_agree<T: Copy + PartialEq, F: Fn(&[u8], usize) -> T>(
+// Whether the first n entries of a pool are those from a place on, each so many bytes after the one before it,
+// and all after them are another.
+pub fn entries_agree<T: Entry>(
     bytes: &[u8],
     from: usize,
     apart: usize,
-    entry: F,
     n: usize,
     pool: &[T],
     past: T,
-) -> bool
-    requires { F.IsAlwaysCallable entry }
-{
+) -> bool {
     let mut at = from;
     for (i, x) in pool.iter().enumerate() {
-        let expected = if i < n { entry(bytes, at) } else { past };
+        let expected = if i < n { T::at(bytes, at) } else { past };
         if *x != expected {
             return false;
         }
@@ -94,10 +97,10 @@ pub fn entries_agree<T: Copy + PartialEq, F: Fn(&[u8], usize) -> T>(
 
 // Whether the first n words of a pool are those from a place on, and all after them are another.
 pub fn words_agree(bytes: &[u8], from: usize, n: usize, pool: &[u16], past: u16) -> bool {
-    entries_agree(bytes, from, 2, word, n, pool, past)
+    entries_agree(bytes, from, 2, n, pool, past)
 }
 
 // Whether the first n rows of a pool are those from a place on, and all after them are 0.
 pub fn rows_agree(bytes: &[u8], from: usize, n: usize, pool: &[u64]) -> bool {
-    entries_agree(bytes, from, 8, number, n, pool, 0)
+    entries_agree(bytes, from, 8, n, pool, 0)
 }

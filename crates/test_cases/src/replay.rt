@@ -67,21 +67,25 @@ fn read_on(file: Option<File>, left: u64, tally: Tally, record: &mut [u8]) -> Re
     }
 }
 
+// What a replay asks of each record: whether the case in it is answered as told.
+pub trait Cases {
+    fn agrees(&mut self, record: &[u8]) -> bool;
+}
+
 // Judges every record of a file of the folder that the program runs in, each read to the buffer; a file that
 // can't be opened has none.
-pub fn replay_all<F: FnMut(&[u8]) -> bool>(
+pub fn replay_all<C: Cases>(
     rt: &impl Files<File = File>,
     name: &[u8],
     record: &mut [u8],
-    mut agrees: F,
+    cases: &mut C,
 ) -> Tally
-    requires { F.IsAlwaysCallable agrees }
     ensures { result.differ ≤ result.cases }
 {
     let mut run = Replay::of(rt, name, record);
     // a while: it goes on until the file gives no more record, and how many it gives isn't known before
     while 0 < run.left {
-        let agreed = agrees(record);
+        let agreed = cases.agrees(record);
         run = run.next(agreed, record);
     }
     run.tally

@@ -15,12 +15,11 @@ use Rattle.base_lists.specs.Pool.{pad}
 use Rattle.base_lists.proofs.Below.{and_left, and_right}
 use Rattle.base_lists.proofs.Flat.{length-list}
 use Rattle.day_rows.specs.Check.{counts_in_range}
-use Rattle.day_rows.specs.Refusal.{number_of}
-use Rattle.day_rows.specs.Told.{done, refused, Verdict, good, unless, Outcome, outcome, judged}
+use Rattle.day_rows.specs.Told.{done, refused, Verdict, good, refuse, refusal_tells, tells, unless, and_then, Outcome, outcome, judged}
 use Rattle.day_rows.specs.declared.check.Takes.TheVariants as takes
 use Rattle.day_rows.specs.declared.refusal.Refusal.{Refusal}
 use Rattle.day_rows.proofs.CountLaws.{Within, within}
-use Rattle.day_rows.proofs.ToldLaws.{done-is, refused-not-done, refused_as, unless-done}
+use Rattle.day_rows.proofs.ToldLaws.{done-is, refused-not-done, refused-number, refused_as, unless-done, then_done}
 use Rattle.day_rows.specs.Levels.{levels_in_range, levels_rise, last_level}
 use Rattle.day_file.specs.FileDay.{Parts, parts, FileDay, row_counts, file_counts_in_range, day_rows_judged, pools_full, padded}
 use Rattle.day_file.specs.FileDay.{day as file-day}
@@ -33,6 +32,7 @@ use Rattle.day_file.proofs.DayLaws.{good_body}
 use Rattle.text_day.specs.steps.FileRead.{DayRead, ReadsFile}
 use Rattle.text_day.specs.Prepared.{judged_to, reduced_to, prepared_of}
 use Rattle.text_day.specs.Prepared as prepared
+use Rattle.text_day.specs.Reading.{reading_of, read_out}
 use Rattle.text_day.specs.steps.FileGiven.{FileGiven, GivenLevels}
 
 -- a good file holds a day
@@ -149,10 +149,50 @@ ready-good file e = go (leb (length file) longest_file) (file_judged file) refl 
     go true (refused number carried) g h = absurd (refused-not-ready h)
     go false (refused number carried) g h = absurd (refused-not-ready h)
 
+-- ---- what reading a file tells, by its length and its judgement
+
 -- a refusal that is passed on by `?`
-pub reads-refused : (file : List ℕ) (answer : Result lent.FileDay Refusal) (why : Refusal) → IsErrAnd answer (λ passed. passed ≡ why) → prepared.refused (number_of why) ≡ prepared_of file → ReadsFile file answer
-reads-refused file (Ok day) why h e = absurd h
-reads-refused file (Err passed) why h e = ap (λ (w : Refusal). prepared.refused (number_of w)) h ∙ e
+pub read_passed : (answer : Result lent.FileDay Refusal) (why : Refusal) → IsErrAnd answer (λ passed. passed ≡ why) → tells (read_out answer) ≡ refusal_tells why
+read_passed (Ok day) why h = absurd h
+read_passed (Err passed) why h = ap (λ (w : Refusal). refusal_tells w) h
+
+module _ (file : List ℕ) where
+  pub reading_long : longest_file < length file → refuse 11 ≡ reading_of file
+  unfolding reading_of
+  reading_long h = rw (lt-leb _ _ h)
+
+  pub reading_refused : length file ≤ longest_file → {number : ℕ} {carried : List ℕ} → file_judged file ≡ refused number carried → refused number carried ≡ reading_of file
+  unfolding reading_of
+  reading_refused short e = rw (le-leb _ _ short, e)
+
+  pub reading_day : {day : FileDay} → DayRead file day → done day ≡ reading_of file
+  unfolding reading_of
+  reading_day d = ap done d.is-files ∙ rw (le-leb _ _ d.short, d.is-good)
+
+-- a day that is told is the file's, which has been judged good
+pub day-told : (file : List ℕ) {day : FileDay} → done day ≡ reading_of file → DayRead file day
+unfolding reading_of
+day-told file e =
+    let judged-then = and_then (file_judged file) (done (day_in file)) in
+    let a = unless-done (leb (length file) longest_file) 11 judged-then (sym e) in
+    let b = then_done (file_judged file) (done (day_in file)) a.1 in
+    record { short = leb-true _ _ a.0; is-good = b.0; is-files = sym (done-is b.1) }
+
+-- a refusal that is told is what the file comes to
+pub refusal-told : (file : List ℕ) {number : ℕ} {carried : List ℕ} → refused number carried ≡ reading_of file → prepared.refused number ≡ prepared_of file
+unfolding reading_of prepared_of
+refusal-told file {number} {carried} e = go (leb (length file) longest_file) (file_judged file) e
+  where
+    go : (short : Bool) (v : Verdict) → refused number carried ≡ unless short 11 (and_then v (done (day_in file)))
+        → prepared.refused number ≡ cond short (judged_to v (reduced_to (row_counts (counts_in file)) (lists_in file (counts_in file)).rows)) (prepared.refused 11)
+    go true (done value) h = absurd (refused-not-done h)
+    go true (refused other with_it) h = ap prepared.refused (refused-number h)
+    go false v h = ap prepared.refused (refused-number h)
+
+-- the file's day, or the refusal that the file comes to
+pub reads-file : (file : List ℕ) (answer : Result lent.FileDay Refusal) → tells (read_out answer) ≡ reading_of file → ReadsFile file answer
+reads-file file (Ok day) e = day-told file e
+reads-file file (Err why) e = refusal-told file e
 
 module _ (file : List ℕ) {counts : FileCounts} {mins maxs optional levels preferences rows : List ℕ} (f : FileRead file counts (parts mins maxs optional levels preferences rows)) where
   pub day : FileGiven (row_counts (counts_in file)) (lists_in file (counts_in file)).mins (lists_in file (counts_in file)).maxs (lists_in file (counts_in file)).optional (lists_in file (counts_in file)).rows

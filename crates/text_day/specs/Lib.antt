@@ -1,3 +1,4 @@
 pub mod Made
 pub mod Prepared
+pub mod Reading
 pub mod steps

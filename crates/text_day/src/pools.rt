@@ -1,5 +1,7 @@
 // The pools that a file's day is read into.
-ghost use Rattle.text_day.specs.steps.FileRead.{ReadsFile};
+ghost use Rattle.std.specs.Prelude.{◌≡◌};
+ghost use Rattle.day_rows.specs.Told.{tells};
+ghost use Rattle.text_day.specs.Reading.{reading_of, read_out, no_day};
 
 use day_file::day::FileDay;
 use day_file::read::read_day;
@@ -19,7 +21,9 @@ pub struct Pools {
 
 impl Pools {
     // Pools that hold no day.
-    pub fn new() -> Pools {
+    pub fn new() -> Pools
+        ensures { result ≡ no_day }
+    {
         Pools {
             mins: [0u16; 64],
             maxs: [0u16; 64],
@@ -33,7 +37,7 @@ impl Pools {
 
 // The day of a file, read into the pools: 'a file on standard input (over 26,827 bytes: 11)'.
 pub fn read_file<'a>(file: &[u8], pools: &'a mut Pools) -> Result<FileDay<'a>, Refusal>
-    ensures { ReadsFile file.now result }
+    ensures { tells (read_out result) ≡ reading_of file.now }
 {
     if LONGEST_FILE < file.len() {
         return Err(Refusal::FileLength);

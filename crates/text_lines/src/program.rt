@@ -1,13 +1,16 @@
 // What the programs share: an argument that is there or not, a file read from the input, and the front of a
 // pool that holds a text.
 ghost use Rattle.std.specs.Prelude.{◌≡◌, ◌≤◌, length, take};
+ghost use Rattle.text_lines.specs.Argument.{is_given};
 
-use std::env::{Env, FillError};
+use std::env::FillError;
 use std::io::Read;
 
-// Whether the program has an argument of this number, its own name being 0.
-pub fn is_given(rt: &impl Env, at: usize) -> bool {
-    !matches!(rt.arg(at, &mut []), Err(FillError::NotPresent))
+// Whether a program has an argument, by what the system answers when it is asked for it.
+pub fn is_given(answer: Result<usize, FillError>) -> bool
+    ensures { result ≡ is_given answer }
+{
+    !matches!(answer, Err(FillError::NotPresent))
 }
 
 // Reads until the list is full, or the input ends or can't be read, and answers how many bytes it put at the
