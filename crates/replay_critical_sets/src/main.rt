@@ -38,8 +38,7 @@ fn after_list(bytes: &[u8], at: usize) -> usize {
 
 // Whether the pool holds the members of a list of sets, and zeros after them.
 fn members_agree(bytes: &[u8], at: usize, count: usize, pool: &[u64]) -> bool {
-    count == usize::from(word(bytes, at))
-        && entries_agree(bytes, plus(at, 4), 10, count, pool, 0)
+    count == usize::from(word(bytes, at)) && entries_agree(bytes, plus(at, 4), 10, count, pool, 0)
 }
 
 // Whether the pool holds the levels of a list of sets, and zeros after them.

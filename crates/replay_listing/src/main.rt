@@ -154,7 +154,9 @@ fn main(rt: HostRuntime) -> io::Result<()> {
         &rt,
         b"cases",
         &mut record,
-        &mut Days { buffer: &mut buffer },
+        &mut Days {
+            buffer: &mut buffer,
+        },
     );
     tally.tell(&rt, b"listing")
 }
