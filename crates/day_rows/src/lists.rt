@@ -26,7 +26,12 @@ pub fn last_level(levels: &[u16]) -> u16
 pub fn preferences_keep(last: u16, preferences: &[u16]) -> bool
     ensures { result ≡ all_at_most last preferences.now }
 {
-    preferences.iter().all(|preference| *preference <= last)
+    for preference in preferences {
+        if last < *preference {
+            return false;
+        }
+    }
+    true
 }
 
 // Number 13: whether every optional byte is 0 or 1.

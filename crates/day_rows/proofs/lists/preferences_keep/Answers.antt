@@ -1,15 +1,23 @@
-use mathlib.Core.Path.{sym, ◌∙◌}
-use lib.Dec.{leb}
-use Rattle.std.proofs.Common.{tests, rules}
-use Rattle.std.proofs.lemmas.Iterator.{YieldsList-from_slice}
-use Rattle.std.proofs.lemmas.Iterator.Search.{all_from_yields_List}
-use Rattle.base_lists.proofs.All.{all_of-below}
-use Rattle.base_lists.proofs.Words.{every-passes}
+use mathlib.Core.Path.{sym}
+use borrow.Author.Tests.{le-leb, lt-leb}
+use Rattle.base_lists.proofs.Below.{all_more, one-fails}
+use Rattle.base_lists.proofs.Through.{all_none, all_done}
 use Rattle.base_lists.specs.All.{all_at_most}
 use Rattle.day_rows.proofs.lists.preferences_keep.Goals as goal
+
+pub loop-preference-init : goal.loop-preference-init
+loop-preference-init c = all_none _
+
+pub returns-then-last-preference : goal.returns-then-last-preference
+unfolding all_at_most
+returns-then-last-preference c =
+    sym (one-fails _ _ _ c.loop-preference-test.true (lt-leb _ _ c.if-last-preference.true))
+
+pub loop-preference-preserved : goal.loop-preference-preserved
+loop-preference-preserved c =
+    all_more _ _ c.loop-preference.invariant (le-leb _ _ c.if-last-preference.false)
 
 pub returns : goal.returns
 unfolding all_at_most
 returns c =
-    let all = all_from_yields_List (λ entry. leb entry c.args.last) _ _ c.all.result c.all.ensures.ran (YieldsList-from_slice _ c.iter.ensures.rest) (λ x b q k. search (rules, tests)) in
-    all ∙ every-passes _ _ ∙ sym (all_of-below _ _ 0)
+    all_done _ _ _ c.loop-preference.auto.preference-index-end c.loop-preference-test.false c.loop-preference.invariant
