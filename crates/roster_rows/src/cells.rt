@@ -26,10 +26,13 @@ pub(crate) fn cells_of<'a>(roster: &Roster<'a>, chooser: usize) -> &'a [u8]
 pub(crate) fn times_in(choice: u16, cells: &[u8]) -> usize
     ensures { result ≡ times_in choice cells.now }
 {
-    cells
-        .iter()
-        .filter(|cell| u16::from(**cell) == choice)
-        .count()
+    let mut times = 0;
+    for cell in cells {
+        if u16::from(*cell) == choice {
+            times += 1;
+        }
+    }
+    times
 }
 
 // 'chooser there': whether one of the cells names a choice.
