@@ -3,5 +3,6 @@ pub mod Alike
 pub mod Buffers
 pub mod Numbers
 pub mod Pages
+pub mod Readings
 pub mod Records
 pub mod Tallies

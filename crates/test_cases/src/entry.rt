@@ -12,6 +12,15 @@ pub trait Entry: Copy + PartialEq {
         ensures { result ≡ stands_at bytes.now at };
 }
 
+// How an entry of any type is read from a place of a record on, by a value that a caller lends: what `Entry` is for
+// the four types above the records, and what a closure would be, which could be asked for only under a `requires`.
+pub trait Reading<T> {
+    ghost MayRead: { Self → List ℕ → ℕ → T → Type 0 };
+
+    fn read(&self, bytes: &[u8], at: usize) -> T
+        ensures { MayRead self.now bytes.now at result };
+}
+
 // A byte.
 impl Entry for u8 {
     ghost stands_at = { λ bytes at. slice_index bytes at };

@@ -7,9 +7,10 @@ ghost use Rattle.std.specs.Prelude.{◌≡◌, ◌+◌, ◌%◌, ◌^◌, take, 
 ghost use Rattle.test_cases.specs.steps.Alike.{alike};
 ghost use Rattle.test_cases.specs.steps.Buffers.{filled};
 ghost use Rattle.test_cases.specs.steps.Numbers.{word_at, number_at};
+ghost use Rattle.test_cases.specs.steps.Readings.{EachRead};
 ghost use Rattle.test_cases.specs.steps.Tallies.{counted, closed};
 
-use entry::Entry;
+use entry::{Entry, Reading};
 use std::fs::{File, Files};
 use std::{fs, io};
 use text_lines::program::read_full;
@@ -19,6 +20,8 @@ pub mod entry;
 pub mod pages;
 pub mod parts;
 pub mod replay;
+#[cfg(test)]
+mod tests;
 pub mod texts;
 
 // What a byte of a lent pool holds before a call, so that what the call left alone shows.
@@ -195,6 +198,24 @@ pub fn read_entries<T: Entry>(bytes: &[u8], from: usize, apart: usize, entries: 
     for x in entries.iter_mut() {
         *x = T::at(bytes, at);
         at = plus(at, apart);
+    }
+}
+
+// Fills a list with the entries from a place on, each so many bytes after the one before it, as the lent value reads
+// them.
+pub fn read_entries_by<T: Copy, R: Reading<T>>(
+    bytes: &[u8],
+    from: usize,
+    size: usize,
+    reading: &R,
+    entries: &mut [T],
+)
+    ensures { EachRead (R.MayRead reading.now bytes.now) size from entries.new }
+{
+    let mut at = from;
+    for x in entries.iter_mut() {
+        *x = reading.read(bytes, at);
+        at = plus(at, size);
     }
 }
 

@@ -2,8 +2,9 @@
 // compared, and the place after them.
 ghost use Rattle.std.specs.Prelude.{◌≡◌, take, drop};
 ghost use Rattle.std.specs.List.{list_all};
+ghost use Rattle.test_cases.specs.steps.Readings.{Agreed};
 
-use super::entry::Entry;
+use super::entry::{Entry, Reading};
 use super::{first, plus, read_entries};
 
 // The n entries of a list from a place on, or what it has of them.
@@ -87,6 +88,30 @@ pub fn entries_agree<T: Entry>(
     let mut at = from;
     for (i, x) in pool.iter().enumerate() {
         let expected = if i < n { T::at(bytes, at) } else { past };
+        if *x != expected {
+            return false;
+        }
+        at = plus(at, apart);
+    }
+    true
+}
+
+// Whether the first n entries of a pool are those from a place on, each so many bytes after the one before it and
+// read as the lent value reads them, and all after them are another.
+pub fn entries_agree_by<T: Copy + PartialEq, R: Reading<T>>(
+    bytes: &[u8],
+    from: usize,
+    apart: usize,
+    reading: &R,
+    n: usize,
+    pool: &[T],
+    past: T,
+) -> bool
+    ensures { Agreed (R.MayRead reading.now bytes.now) T.eq past apart from n pool.now result }
+{
+    let mut at = from;
+    for (i, x) in pool.iter().enumerate() {
+        let expected = if i < n { reading.read(bytes, at) } else { past };
         if *x != expected {
             return false;
         }

@@ -15,6 +15,7 @@ use Rattle.base_lists.specs.Pool.{pad}
 use Rattle.base_lists.proofs.Below.{and_left, and_right}
 use Rattle.base_lists.proofs.Flat.{length-list}
 use Rattle.day_rows.specs.Check.{counts_in_range}
+use Rattle.day_rows.specs.Refusal.{number_of}
 use Rattle.day_rows.specs.Told.{done, refused, Verdict, good, refuse, refusal_tells, tells, unless, and_then, Outcome, outcome, judged}
 use Rattle.day_rows.specs.declared.check.Takes.TheVariants as takes
 use Rattle.day_rows.specs.declared.refusal.Refusal.{Refusal}
@@ -151,7 +152,12 @@ ready-good file e = go (leb (length file) longest_file) (file_judged file) refl 
 
 -- ---- what reading a file tells, by its length and its judgement
 
--- a refusal that is passed on by `?`
+-- a refusal that is passed on by `?`, by what it comes to
+pub reads-refused : (file : List ℕ) (answer : Result lent.FileDay Refusal) (why : Refusal) → IsErrAnd answer (λ passed. passed ≡ why) → prepared.refused (number_of why) ≡ prepared_of file → ReadsFile file answer
+reads-refused file (Ok day) why h e = absurd h
+reads-refused file (Err passed) why h e = ap (λ (w : Refusal). prepared.refused (number_of w)) h ∙ e
+
+-- the same, by what it tells
 pub read_passed : (answer : Result lent.FileDay Refusal) (why : Refusal) → IsErrAnd answer (λ passed. passed ≡ why) → tells (read_out answer) ≡ refusal_tells why
 read_passed (Ok day) why h = absurd h
 read_passed (Err passed) why h = ap (λ (w : Refusal). refusal_tells w) h
