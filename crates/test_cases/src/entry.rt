@@ -12,8 +12,8 @@ pub trait Entry: Copy + PartialEq {
         ensures { result ≡ stands_at bytes.now at };
 }
 
-// How an entry of any type is read from a place of a record on, by a value that a caller lends: what `Entry` is for
-// the four types above the records, and what a closure would be, which could be asked for only under a `requires`.
+// How an entry of any type is read from a place of a record on, by a value that a caller lends and that may hold more
+// than the record. A closure would do, but a function may call one only where a `requires` says that it may be called.
 pub trait Reading<T> {
     ghost MayRead: { Self → List ℕ → ℕ → T → Type 0 };
 

@@ -1,6 +1,6 @@
 // Entries of any type, read by what a caller lends: a value that holds more than the record, and a closure. What takes a
 // closure asks that it may be called; the type of what it lends on says so, so that nothing is asked there.
-ghost use Rattle.std.specs.Prelude.{⊤};
+ghost use Rattle.std.specs.Prelude.{◌≡◌, ◌+◌, ◌%◌, ⊤, slice_index};
 
 use super::entry::Reading;
 use super::parts::entries_agree_by;
@@ -20,7 +20,7 @@ struct Raised {
 }
 
 impl Reading<u8> for Raised {
-    ghost MayRead = { λ raised bytes at x. ⊤ };
+    ghost MayRead = { λ raised bytes at x. x ≡ (slice_index bytes at + raised.by) % 256 };
 
     fn read(&self, bytes: &[u8], at: usize) -> u8 {
         byte(bytes, at).wrapping_add(self.by)
