@@ -1,7 +1,7 @@
 -- No two outcomes fit what is promised of entries that a lent value reads, where it reads one entry at a place.
-use mathlib.Core.Logic.{◌⊎◌, inl, inr}
+use mathlib.Core.Logic.{inl, inr}
 use mathlib.Core.Bool.{false≢true}
-use Rattle.std.proofs.Common.{◌≡◌, ℕ, zero, suc, ◌+◌, ◌%◌, ◌^◌, Bool, true, false, List, [], ◌∷◌, length, sym, refl, ap, ◌∙◌, arith}
+use Rattle.std.proofs.Common.{◌≡◌, ℕ, zero, suc, ◌+◌, ◌%◌, ◌^◌, Bool, List, [], ◌∷◌, length, sym, refl, ap, ◌∙◌, arith}
 use Rattle.test_cases.specs.steps.Readings.{EachRead, ToldBy, Agreed}
 
 module _ {T : Type 0} (reads : ℕ → T → Type 0) (one : (at : ℕ) (x y : T) → reads at x → reads at y → x ≡ y) (apart : ℕ) where

@@ -201,8 +201,7 @@ pub fn read_entries<T: Entry>(bytes: &[u8], from: usize, apart: usize, entries: 
     }
 }
 
-// Fills a list with the entries from a place on, each so many bytes after the one before it, as the lent value reads
-// them.
+// The same of entries of any type, as the lent value reads them; a loop of its own, since there the type reads.
 pub fn read_entries_by<T: Copy, R: Reading<T>>(
     bytes: &[u8],
     from: usize,

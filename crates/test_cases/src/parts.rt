@@ -96,8 +96,7 @@ pub fn entries_agree<T: Entry>(
     true
 }
 
-// Whether the first n entries of a pool are those from a place on, each so many bytes after the one before it and
-// read as the lent value reads them, and all after them are another.
+// The same of entries of any type, as the lent value reads them.
 pub fn entries_agree_by<T: Copy + PartialEq, R: Reading<T>>(
     bytes: &[u8],
     from: usize,

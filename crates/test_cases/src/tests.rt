@@ -1,5 +1,4 @@
-// Entries of any type, read by what a caller lends: a value that holds more than the record, and a closure. What takes a
-// closure asks that it may be called; the type of what it lends on says so, so that nothing is asked there.
+// Entries read and compared by what a caller lends, of any type: by a value of its own, and by a closure.
 ghost use Rattle.std.specs.Prelude.{◌≡◌, ◌+◌, ◌%◌, ⊤, slice_index};
 
 use super::entry::Reading;
@@ -27,7 +26,7 @@ impl Reading<u8> for Raised {
     }
 }
 
-// What may be asked for entries where a fact holds of it.
+// What reads entries while a fact holds of it.
 trait Asked {
     type Entry;
 
@@ -37,7 +36,7 @@ trait Asked {
         requires { May self.now };
 }
 
-// A closure, which may be asked where it may always be called.
+// A closure reads while it may be called.
 #[derive(Drop)]
 struct Closure<F> {
     read: F,
@@ -53,7 +52,7 @@ impl<T, F: Fn(&[u8], usize) -> T> Asked for Closure<F> {
     }
 }
 
-// What may be asked, by its type.
+// The fact holds of every value of this type, so that the value reads wherever it is lent.
 struct Ready<A: Asked> {
     asked: A,
 }
@@ -74,22 +73,65 @@ impl<A: Asked> Reading<A::Entry> for Ready<A> {
     }
 }
 
-// Fills a list with entries as one that may be asked reads them.
-fn fill<A: Asked + Drop>(bytes: &[u8], size: usize, asked: A, entries: &mut [A::Entry])
-where
-    A::Entry: Copy,
+// A step of its own, as `agree_asked` below: the borrow checker covers none that knows the closure's type.
+fn read_asked<T: Copy, A: Asked<Entry = T> + Drop>(
+    bytes: &[u8],
+    from: usize,
+    size: usize,
+    asked: A,
+    entries: &mut [T],
+)
     requires { A.May asked }
 {
     let ready = Ready { asked };
-    read_entries_by(bytes, 0, size, &ready, entries);
+    read_entries_by(bytes, from, size, &ready, entries);
     let Ready { asked: _asked } = ready;
 }
 
-// Fills a list with entries as a closure reads them.
-fn fill_by<T: Copy, F: Fn(&[u8], usize) -> T>(bytes: &[u8], size: usize, read: F, entries: &mut [T])
-    requires { F.IsAlwaysCallable read }
+// Fills a list with the entries from a place on, as a closure reads them.
+fn read_entries<T: Copy, F: Fn(&[u8], usize) -> T>(
+    bytes: &[u8],
+    from: usize,
+    size: usize,
+    entry: F,
+    entries: &mut [T],
+)
+    requires { F.IsAlwaysCallable entry }
 {
-    fill(bytes, size, Closure { read }, entries)
+    read_asked(bytes, from, size, Closure { read: entry }, entries)
+}
+
+fn agree_asked<T: Copy + PartialEq, A: Asked<Entry = T> + Drop>(
+    bytes: &[u8],
+    from: usize,
+    apart: usize,
+    asked: A,
+    n: usize,
+    pool: &[T],
+    past: T,
+) -> bool
+    requires { A.May asked }
+{
+    let ready = Ready { asked };
+    let agree = entries_agree_by(bytes, from, apart, &ready, n, pool, past);
+    let Ready { asked: _asked } = ready;
+    agree
+}
+
+// Whether the first n entries of a pool are those from a place on, as a closure reads them, and all after them
+// another.
+fn entries_agree<T: Copy + PartialEq, F: Fn(&[u8], usize) -> T>(
+    bytes: &[u8],
+    from: usize,
+    apart: usize,
+    entry: F,
+    n: usize,
+    pool: &[T],
+    past: T,
+) -> bool
+    requires { F.IsAlwaysCallable entry }
+{
+    agree_asked(bytes, from, apart, Closure { read: entry }, n, pool, past)
 }
 
 #[test]
@@ -99,8 +141,9 @@ fn a_closure_reads(rt: HostRuntime) {
         second: 0,
     }; 3];
     let by = 100u8;
-    fill_by(
+    read_entries(
         b"abcdefg",
+        0,
         3,
         |bytes, at| Pair {
             first: byte(bytes, at),
@@ -113,6 +156,15 @@ fn a_closure_reads(rt: HostRuntime) {
         [pairs[0].second, pairs[1].second, pairs[2].second],
         [254, 1, 156]
     );
+}
+
+#[test]
+fn a_closure_compares(rt: HostRuntime) {
+    let by = 1u8;
+    let raised = |bytes: &[u8], at: usize| byte(bytes, at).wrapping_add(by);
+    assert!(rt; entries_agree(b"abcdefg", 1, 2, raised, 3, b"ceg\x05\x05", 5));
+    assert!(rt; !entries_agree(b"abcdefg", 1, 2, raised, 3, b"ceg\x05\x06", 5));
+    assert!(rt; !entries_agree(b"abcdefg", 2, 2, raised, 3, b"ceg\x05\x05", 5));
 }
 
 #[test]

@@ -1,5 +1,5 @@
 -- The loop's invariant: the entries up to here are read, and the next one's place is the one after them.
-use Rattle.std.proofs.Common.{◌≡◌, ◌≤◌, length, take}
+use Rattle.std.proofs.Common.{◌≡◌, length, take}
 use Rattle.test_cases.specs.steps.Readings.{EachRead}
 use Rattle.test_cases.proofs.ReadingLaws.{place}
 use Rattle.test_cases.proofs.read_entries_by.Given as goal

@@ -1,7 +1,7 @@
 -- An entry that is as expected leaves the answer to those after it, and one that isn't says no.
-use mathlib.Core.Logic.{◌⊎◌, inl, inr}
+use mathlib.Core.Logic.{inl, inr}
 use mathlib.Core.Path.{subst}
-use Rattle.std.proofs.Common.{◌≡◌, ◌<◌, ◌≤◌, true, false, sym}
+use Rattle.std.proofs.Common.{true, false, sym}
 use Rattle.test_cases.proofs.ReadingLaws.{Held, agreed-on, agreed-not, agreed-end}
 use Rattle.test_cases.proofs.parts.entries_agree_by.Goals as goal
 use Rattle.test_cases.proofs.parts.entries_agree_by.Goals.{then-i-n, else-i-n}

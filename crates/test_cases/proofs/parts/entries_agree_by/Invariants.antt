@@ -1,5 +1,5 @@
 -- The loop's invariant: what the entries from here on tell, all of them tell.
-use Rattle.std.proofs.Common.{ℕ, ◌-◌, Bool, drop}
+use Rattle.std.proofs.Common.{◌-◌, Bool, drop}
 use Rattle.test_cases.specs.steps.Readings.{Agreed}
 use Rattle.test_cases.proofs.parts.entries_agree_by.Given as goal
 
