@@ -1,5 +1,5 @@
-// What a list of a record may hold: bytes, words, draws and rows, each with the way it stands there; and entries
-// of any other type, as a caller has them read.
+// What a list of a record may hold: bytes, words, draws and rows, each with the way it stands there; and
+// entries of any other type, as a caller has them read.
 ghost use Rattle.std.specs.Prelude.{◌≡◌, ℕ, List, slice_index};
 ghost use Rattle.test_cases.specs.steps.Numbers.{word_at, draw_at, number_at};
 
@@ -13,8 +13,8 @@ pub trait Entry: Copy + PartialEq {
         ensures { result ≡ stands_at bytes.now at };
 }
 
-// How an entry of any type is read from a place of a record on, by a value that a caller lends and that may hold
-// more than the record. No closure, since one is called only under a `requires`; src/tests.rt lends one so.
+// How an entry of any type is read from a place of a record on, by a value that a caller lends and that may
+// hold more than the record. No closure: one is called only under a `requires`. src/tests.rt lends one so.
 pub trait Reading<T> {
     ghost MayRead: { Self → List ℕ → ℕ → T → Type 0 };
 
