@@ -1,4 +1,4 @@
--- No two outcomes fit what is promised of entries that a lent value reads, where it reads one entry at a place.
+-- No two outcomes fit what is promised of entries that a lent value reads, where it reads one at a place.
 use mathlib.Core.Logic.{inl, inr}
 use mathlib.Core.Bool.{false≢true}
 use Rattle.std.proofs.Common.{◌≡◌, ℕ, zero, suc, ◌+◌, ◌%◌, ◌^◌, Bool, List, [], ◌∷◌, length, sym, refl, ap, ◌∙◌, arith}

@@ -84,7 +84,8 @@ module _ {T : Type 0} (reads : ℕ → T → Type 0) (eq : T → T → Bool) (pa
   unfolding Agreed
   none at n = refl
 
-  -- an entry that is as expected leaves the answer to those after it; one that isn't says no; with none left it is yes
+  -- an entry that is as expected leaves the answer to those after it, one that isn't says no, and with none
+  -- left it is yes
   module _ (n i at : ℕ) (pool : List T) where
     module _ (x y : T) (h : i < length pool) (is : x ≡ get_or pool i x) (e : Held reads past at n i y) where
       here : drop i pool ≡ x ∷ drop (i + 1) pool

@@ -201,7 +201,8 @@ pub fn read_entries<T: Entry>(bytes: &[u8], from: usize, apart: usize, entries: 
     }
 }
 
-// The same of entries of any type, as the lent value reads them; a loop of its own, since there the type reads.
+// The same of entries of any type, as the lent value reads them: a loop of its own, so that what replays run
+// stays as it was.
 pub fn read_entries_by<T: Copy, R: Reading<T>>(
     bytes: &[u8],
     from: usize,

@@ -96,7 +96,7 @@ pub fn entries_agree<T: Entry>(
     true
 }
 
-// The same of entries of any type, as the lent value reads them.
+// The same of entries of any type, as the lent value reads them: a loop of its own, as `read_entries_by`.
 pub fn entries_agree_by<T: Copy + PartialEq, R: Reading<T>>(
     bytes: &[u8],
     from: usize,

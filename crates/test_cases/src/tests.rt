@@ -73,7 +73,8 @@ impl<A: Asked> Reading<A::Entry> for Ready<A> {
     }
 }
 
-// A step of its own, as `agree_asked` below: the borrow checker covers none that knows the closure's type.
+// Generic over what is asked, as `agree_asked` below: the borrow checker doesn't cover a function that makes
+// and lends a `Ready` over a closure's own type.
 fn read_asked<T: Copy, A: Asked<Entry = T> + Drop>(
     bytes: &[u8],
     from: usize,
@@ -89,7 +90,7 @@ fn read_asked<T: Copy, A: Asked<Entry = T> + Drop>(
 }
 
 // Fills a list with the entries from a place on, as a closure reads them.
-fn read_entries<T: Copy, F: Fn(&[u8], usize) -> T>(
+fn read_by_closure<T: Copy, F: Fn(&[u8], usize) -> T>(
     bytes: &[u8],
     from: usize,
     size: usize,
@@ -118,9 +119,9 @@ fn agree_asked<T: Copy + PartialEq, A: Asked<Entry = T> + Drop>(
     agree
 }
 
-// Whether the first n entries of a pool are those from a place on, as a closure reads them, and all after them
-// another.
-fn entries_agree<T: Copy + PartialEq, F: Fn(&[u8], usize) -> T>(
+// Whether the first n entries of a pool are those from a place on, as a closure reads them, and each after
+// them equals another.
+fn agree_by_closure<T: Copy + PartialEq, F: Fn(&[u8], usize) -> T>(
     bytes: &[u8],
     from: usize,
     apart: usize,
@@ -141,7 +142,7 @@ fn a_closure_reads(rt: HostRuntime) {
         second: 0,
     }; 3];
     let by = 100u8;
-    read_entries(
+    read_by_closure(
         b"abcdefg",
         0,
         3,
@@ -162,9 +163,9 @@ fn a_closure_reads(rt: HostRuntime) {
 fn a_closure_compares(rt: HostRuntime) {
     let by = 1u8;
     let raised = |bytes: &[u8], at: usize| byte(bytes, at).wrapping_add(by);
-    assert!(rt; entries_agree(b"abcdefg", 1, 2, raised, 3, b"ceg\x05\x05", 5));
-    assert!(rt; !entries_agree(b"abcdefg", 1, 2, raised, 3, b"ceg\x05\x06", 5));
-    assert!(rt; !entries_agree(b"abcdefg", 2, 2, raised, 3, b"ceg\x05\x05", 5));
+    assert!(rt; agree_by_closure(b"abcdefg", 1, 2, raised, 3, b"ceg\x05\x05", 5));
+    assert!(rt; !agree_by_closure(b"abcdefg", 1, 2, raised, 3, b"ceg\x05\x06", 5));
+    assert!(rt; !agree_by_closure(b"abcdefg", 2, 2, raised, 3, b"ceg\x05\x05", 5));
 }
 
 #[test]
