@@ -16,6 +16,7 @@ module _ {T : Type 0} (reads : ℕ → T → Type 0) (one : (at : ℕ) (x y : T)
 
   -- a pool is told of in one way
   module _ (eq : T → T → Bool) (past : T) where
+    -- what two answers rest on is one comparison, and then one rest
     one-step : {a b equal other : Bool} {R S : Type 0} → equal ≡ other → (R → S → a ≡ b) → ToldBy equal a R → ToldBy other b S → a ≡ b
     one-step e f (inl h) (inl k) = f h.1 k.1
     one-step e f (inl h) (inr k) = absurd (false≢true (sym k.0 ∙ sym e ∙ h.0))
